@@ -1,0 +1,161 @@
+-- When two set-ups are alike: every 32-bit address has the same bank, row and column in both, or no bank in both; and one test for each of
+-- 1,024 megabytes finds it out. Assumes nothing.
+use mathlib.Core.Path.{_≡_, refl, sym, ap, _∙_}
+use mathlib.Core.Bool.{Bool, true, false, not, _&&_, _||_}
+use Prim.Native.Nat.{ℕ, _+_, _*_, _/_, _^_, _≤_, _<_}
+use native.Mathlib.Omega.{arith}
+use lib.Dec.{ltb, leb, eqb}
+use borrow.Author.Tests.{ltb-true, ltb-false, leb-true, le-leb, eqb-true, eq-eqb, not-true}
+use Rattle.ranges.specs.Range.{first, every}
+use Rattle.ranges.proofs.Bools.{and-left, not-of}
+use Rattle.ranges.proofs.RangeLaws.{byCases, contra, first-passes, first-before, every-at, every-all}
+use Rattle.banks.specs.declared.setup.Setup.{Setup}
+use Rattle.banks.specs.declared.Row.{Row}
+use Rattle.banks.specs.declared.Column.{Column}
+use Rattle.banks.specs.Setup.{bank, Sound}
+use Rattle.banks.specs.Map.{bankAt, inSpan, selected, rowOf, columnOf}
+use Rattle.banks.specs.Alike.{samePlace, sameAt, alike}
+use Rattle.banks.specs.Megabyte.{samePart, sameMegabyte}
+use Rattle.banks.proofs.CommonLaws.{row-is, column-is}
+use Rattle.banks.proofs.FieldLaws.{sound-at}
+use Rattle.banks.proofs.SpanLaws.{none-past}
+use Rattle.banks.proofs.MegabyteLaws.{Placed, placed, placed-same, part-place, place-part}
+
+-- ---- tests
+-- x, and p where y
+both : (x y p : Bool) → x ≡ true → (y ≡ true → p ≡ true) → (x && (not y || p)) ≡ true
+both true true p h k = k refl
+both true false p h k = refl
+both false y p h k = h
+
+both-right : (x y p : Bool) → (x && (not y || p)) ≡ true → y ≡ true → p ≡ true
+both-right true true p e k = e
+both-right true false p e k = contra k refl
+both-right false y p e k = contra e refl
+
+equal-tests : (p q : Bool) → (p ≡ true → q ≡ true) → (q ≡ true → p ≡ true) → p ≡ q
+equal-tests true q f g = sym (f refl)
+equal-tests false true f g = g refl
+equal-tests false false f g = refl
+
+-- all numbers below n pass exactly where a search finds none that does not
+every-first : (p : ℕ → Bool) (n : ℕ) → every p n ≡ leb n (first (λ k. not (p k)) n 0)
+every-first p n =
+    let f = first (λ k. not (p k)) n 0 in
+    equal-tests (every p n) (leb n f)
+    (λ h.
+    le-leb n f
+    (byCases (ltb f n)
+    (λ t. let l = ltb-true f n t in contra (every-at p n h f l) (not-true (p f) (first-passes (λ k. not (p k)) n 0 l)))
+    (λ t. ltb-false f n t)))
+    (λ h. every-all p n (λ k l. not-of (p k) (first-before (λ k. not (p k)) n 0 k (omega arith) (omega (arith, leb-true n f h)))))
+
+-- ---- what alike means
+-- the address has the same bank, row and column in both set-ups, or no bank in both
+pub record Agree (s t : Setup) (a : ℕ) : Type 0 where
+  pub same-bank : selected s a ≡ selected t a
+  pub same-row : inSpan s a ≡ true → rowOf (bank s (selected s a)) a ≡ rowOf (bank t (selected t a)) a
+  pub same-column : inSpan s a ≡ true → columnOf (bank s (selected s a)) a ≡ columnOf (bank t (selected t a)) a
+
+module _ (s t : Setup) (a : ℕ) where
+  agree-at : sameAt s t a ≡ true → Agree s t a
+  unfolding sameAt
+  agree-at h =
+      let n = selected s a in
+      let b = bank s n in
+      let c = bank t n in
+      let x = eqb n (selected t a) in
+      let p = samePlace a b c in
+      let e = eqb-true n (selected t a) (and-left x (not (inSpan s a) || p) h) in
+      let g : inSpan s a ≡ true → Placed a b c = λ k. placed a b c (both-right x (inSpan s a) p h k) in
+      record {
+        same-bank = e;
+        same-row = λ k. rw (← e) (row-is (rowOf b a) (rowOf c a) (g k .row));
+        same-column = λ k. rw (← e) (column-is (columnOf b a) (columnOf c a) (g k .column));
+      }
+
+  at-agree : Agree s t a → sameAt s t a ≡ true
+  unfolding sameAt
+  at-agree g =
+      let n = selected s a in
+      let b = bank s n in
+      let c = bank t n in
+      let e = g .same-bank in
+      both (eqb n (selected t a)) (inSpan s a) (samePlace a b c) (eq-eqb n (selected t a) e)
+      (λ k.
+      let i : rowOf b a ≡ rowOf c a = rw (← e) at (g .same-row k) in
+      let j : columnOf b a ≡ columnOf c a = rw (← e) at (g .same-column k) in
+      placed-same a b c (record { row = ap (λ (x : Row). x .0) i; column = ap (λ (x : Column). x .0) j }))
+
+module _ (s t : Setup) where
+  pub alike-agree : alike s t ≡ true → (a : ℕ) → a < 2 ^ 32 → Agree s t a
+  unfolding alike
+  alike-agree h a l = agree-at s t a (every-at (sameAt s t) (2 ^ 32) h a l)
+
+  pub agree-alike : ((a : ℕ) → a < 2 ^ 32 → Agree s t a) → alike s t ≡ true
+  unfolding alike
+  agree-alike h = every-all (sameAt s t) (2 ^ 32) (λ a l. at-agree s t a (h a l))
+
+-- ---- one test a megabyte
+module _ (s t : Setup) (x : Sound s) (y : Sound t) where
+  megabyte-at : (a : ℕ) → sameMegabyte s t (a / 2 ^ 20) ≡ true → sameAt s t a ≡ true
+  unfolding sameAt sameMegabyte inSpan
+  megabyte-at a h =
+      let m = a / 2 ^ 20 in
+      let n = bankAt s m in
+      let b = bank s n in
+      let c = bank t n in
+      let e = eqb n (bankAt t m) in
+      let p = samePart m b c in
+      both e (ltb n 8) (samePlace a b c) (and-left e (not (ltb n 8) || p) h)
+      (λ k. part-place b c (sound-at s x n) (sound-at t y n) a (both-right e (ltb n 8) p h k))
+
+  at-megabyte : (m : ℕ) → ((u : ℕ) → u < 2 ^ 17 → sameAt s t (m * 2 ^ 20 + u * 8) ≡ true) → sameMegabyte s t m ≡ true
+  unfolding sameAt sameMegabyte inSpan
+  at-megabyte m h =
+      let n = bankAt s m in
+      let b = bank s n in
+      let c = bank t n in
+      let e = eqb n (bankAt t m) in
+      let p : ℕ → Bool = λ u. samePlace (m * 2 ^ 20 + u * 8) b c in
+      let g : (u : ℕ) → u < 2 ^ 17 → (e && (not (ltb n 8) || p u)) ≡ true =
+      λ u l. let z : (m * 2 ^ 20 + u * 8) / 2 ^ 20 ≡ m = omega arith in rw z at (h u l) in
+      both e (ltb n 8) (samePart m b c) (and-left e (not (ltb n 8) || p 0) (g 0 (omega arith)))
+      (λ k. place-part b c (sound-at s x n) (sound-at t y n) m (λ u l. both-right e (ltb n 8) (p u) (g u l) k))
+
+  -- from the end of all banks on every megabyte is the same
+  same-past :
+      (e : ℕ)
+      → ((n : ℕ) → n < 8 → bank s n .last < e)
+      → ((n : ℕ) → n < 8 → bank t n .last < e)
+      → (m : ℕ) → e ≤ m → sameMegabyte s t m ≡ true
+  unfolding sameMegabyte
+  same-past e g h m l = simp (none-past s e g m l, none-past t e h m l)
+
+  -- so the megabytes below e tell, where all banks end before it
+  pub alike-within :
+      (e : ℕ)
+      → e ≤ 4096
+      → ((n : ℕ) → n < 8 → bank s n .last < e)
+      → ((n : ℕ) → n < 8 → bank t n .last < e)
+      → alike s t ≡ every (sameMegabyte s t) e
+  unfolding alike
+  alike-within e o f g =
+      equal-tests (every (sameAt s t) (2 ^ 32)) (every (sameMegabyte s t) e)
+      (λ h.
+      every-all (sameMegabyte s t) e
+      (λ m l. at-megabyte m (λ u k. every-at (sameAt s t) (2 ^ 32) h (m * 2 ^ 20 + u * 8) (omega arith))))
+      (λ h.
+      every-all (sameAt s t) (2 ^ 32)
+      (λ a l.
+      let m = a / 2 ^ 20 in
+      megabyte-at a
+      (byCases (ltb m e) (λ u. every-at (sameMegabyte s t) e h m (ltb-true m e u)) (λ u. same-past e f g m (ltb-false m e u)))))
+
+  -- 1,024 megabytes are enough for any two
+  pub alike-every : alike s t ≡ every (sameMegabyte s t) 1024
+  alike-every = alike-within 1024 (omega arith) (λ n l. sound-at s x n .last-most) (λ n l. sound-at t y n .last-most)
+
+  -- the same as a search for the first megabyte that tells the two apart
+  pub alike-first : alike s t ≡ leb 1024 (first (λ m. not (sameMegabyte s t m)) 1024 0)
+  alike-first = alike-every ∙ every-first (sameMegabyte s t) 1024

@@ -1,0 +1,15 @@
+pub mod Shifts
+pub mod Window
+pub mod CommonLaws
+pub mod FieldLaws
+pub mod StoreLaws
+pub mod SpanLaws
+pub mod AcceptedLaws
+pub mod CellLaws
+pub mod MapLaws
+pub mod WayBackLaws
+pub mod AbsentLaws
+pub mod InverseLaws
+pub mod MegabyteLaws
+pub mod AlikeLaws
+pub mod AlikeExamples

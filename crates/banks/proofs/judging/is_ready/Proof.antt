@@ -1,0 +1,17 @@
+use Rattle.banks.specs.Judge.{ready}
+use borrow.Author.Needs.{needs}
+use Rattle.banks.proofs.judging.is_ready.Statement.{statement}
+use Rattle.banks.proofs.judging.is_ready.Tie as tie
+
+verdict-requires : tie.Need-verdict-requires
+verdict-requires c κs = search needs
+
+is-accepted-requires : tie.Need-is-accepted-requires
+is-accepted-requires c κs = search needs
+
+returns : tie.Need-returns
+unfolding ready
+returns c = simp (c .before .is-accepted .ensures, c .before .before .verdict .ensures)
+
+pub is-ready-spec : {M : Type 1} → statement M
+is-ready-spec = tie.close (tie.spec verdict-requires is-accepted-requires returns)

@@ -1,0 +1,42 @@
+use Prim.Native.Nat.{ℕ, _-_}
+use mathlib.Core.Path.{refl, ap, _∙_}
+use native.Mathlib.Omega.{arith}
+use Rattle.ranges.proofs.RangeLaws.{Looked, hit, skip, none}
+use Rattle.banks.specs.Setup.{bank}
+use Rattle.banks.specs.Judge.{lowest, isEnabled}
+use Rattle.banks.proofs.judging.lowest_enabled.Statement.{statement}
+use Rattle.banks.proofs.judging.lowest_enabled.Tie as tie
+
+abbrev Inv-loop : tie.InvT-loop
+Inv-loop s n₀ n = Looked (λ k. isEnabled (bank s k)) 8 0 n
+
+abbrev μ-loop : tie.MeasureT-loop
+μ-loop s n₀ n = 8 - n
+
+loop-holds : tie.Need-loop-holds Inv-loop μ-loop
+loop-holds c = (omega arith, refl)
+
+nth-requires : tie.Need-nth-requires Inv-loop μ-loop
+nth-requires c κs = (c .before .before .pre, omega arith)
+
+returns : tie.Need-returns Inv-loop μ-loop
+unfolding lowest
+returns c = hit _ _ _ _ (c .before .before .before .loop .inv) (c .before .before .loop-test .taken) (ap isEnabled (c .before .nth .ensures .0)) (c .if1 .taken)
+
+add-n : tie.Need-add-n Inv-loop μ-loop
+add-n c = omega arith
+
+loop-less : tie.Need-loop-less Inv-loop μ-loop
+loop-less c = omega arith
+
+loop-again : tie.Need-loop-again Inv-loop μ-loop
+loop-again c = skip _ _ _ _ (c .before .before .before .loop .inv) (c .before .before .loop-test .taken) (ap isEnabled (c .before .nth .ensures .0)) (c .if1 .left)
+
+returns-2 : tie.Need-returns-2 Inv-loop μ-loop
+unfolding lowest
+returns-2 c = none _ _ _ _ (c .before .loop .inv) (c .loop-test .left)
+
+pub lowest-enabled-spec : {M : Type 1} → statement M
+lowest-enabled-spec =
+    tie.close
+    (tie.spec Inv-loop μ-loop loop-holds nth-requires returns add-n loop-less loop-again returns-2)

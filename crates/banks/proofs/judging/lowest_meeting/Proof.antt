@@ -1,0 +1,50 @@
+use Prim.Native.Nat.{ℕ, _-_}
+use mathlib.Core.Path.{refl}
+use native.Mathlib.Omega.{arith}
+use Rattle.ranges.proofs.RangeLaws.{Looked, hit, skip, none}
+use Rattle.banks.specs.Judge.{meetsLower, lowestMeeting}
+use Rattle.banks.proofs.judging.lowest_meeting.Statement.{statement}
+use Rattle.banks.proofs.judging.lowest_meeting.Tie as tie
+
+abbrev Inv-loop : tie.InvT-loop
+Inv-loop s n₀ n = Looked (meetsLower s) 8 0 n
+
+abbrev μ-loop : tie.MeasureT-loop
+μ-loop s n₀ n = 8 - n
+
+loop-holds : tie.Need-loop-holds Inv-loop μ-loop
+loop-holds c = (omega arith, refl)
+
+meets-lower-requires : tie.Need-meets-lower-requires Inv-loop μ-loop
+meets-lower-requires c κs = (c .before .before .pre, omega arith)
+
+returns : tie.Need-returns Inv-loop μ-loop
+unfolding lowestMeeting
+returns c = hit _ _ _ _ (c .before .before .before .loop .inv) (c .before .before .loop-test .taken) (c .before .meets-lower .ensures) (c .if1 .taken)
+
+add-n : tie.Need-add-n Inv-loop μ-loop
+add-n c = omega arith
+
+loop-less : tie.Need-loop-less Inv-loop μ-loop
+loop-less c = omega arith
+
+loop-again : tie.Need-loop-again Inv-loop μ-loop
+loop-again c = skip _ _ _ _ (c .before .before .before .loop .inv) (c .before .before .loop-test .taken) (c .before .meets-lower .ensures) (c .if1 .left)
+
+returns-2 : tie.Need-returns-2 Inv-loop μ-loop
+unfolding lowestMeeting
+returns-2 c = none _ _ _ _ (c .before .loop .inv) (c .loop-test .left)
+
+pub lowest-meeting-spec : {M : Type 1} → statement M
+lowest-meeting-spec =
+    tie.close
+    (tie.spec
+    Inv-loop
+    μ-loop
+    loop-holds
+    meets-lower-requires
+    returns
+    add-n
+    loop-less
+    loop-again
+    returns-2)

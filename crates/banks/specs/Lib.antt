@@ -1,0 +1,6 @@
+pub mod Setup
+pub mod Judge
+pub mod Map
+pub mod WayBack
+pub mod Alike
+pub mod Megabyte

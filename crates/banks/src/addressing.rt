@@ -1,0 +1,105 @@
+// From address to cell.
+ghost use mathlib.Core.Path.{_≡_};
+ghost use Prim.Native.Nat.{_+_, _*_, _/_, _%_, _^_, _≤_, _<_};
+ghost use Rattle.banks.specs.Setup.{Bounded, Sound, bank};
+ghost use Rattle.banks.specs.Map.{paperMapping, holds, bankAt, cells, share, cellsBelow, wordOf, placeOf, mapped};
+use crate::Column;
+use crate::Mapping;
+use crate::Place;
+use crate::Row;
+use crate::setup::Bank;
+use crate::setup::Setup;
+use crate::setup::nth;
+use refusals::Refusal;
+
+// 2 to the power k.
+pub(crate) fn power(k: u32) -> u32
+    requires { ⌜ k < 32 ⌝ }
+    ensures { λ r. ⌜ r ≡ 2 ^ k ⌝ }
+{
+    1u32 << k
+}
+
+fn holds_megabyte(b: Bank, mb: u32) -> bool
+    ensures { λ t. ⌜ t ≡ holds mb b ⌝ }
+{
+    b.enabled & ((b.start <= mb) & (mb <= b.last))
+}
+
+pub(crate) fn bank_at(s: Setup, mb: u32) -> u8
+    requires { ⌜ Sound s ⌝ }
+    ensures { λ n. ⌜ n ≡ bankAt s mb ⌝ }
+{
+    for n in 0..8u8 {
+        if holds_megabyte(nth(s, n), mb) {
+            return n;
+        }
+    }
+    8
+}
+
+pub(crate) fn cell_count(b: Bank) -> u32
+    requires { ⌜ Bounded b ⌝ }
+    ensures { λ k. ⌜ k ≡ cells b ⌝ }
+    ensures bound { λ k. ⌜ (0 < k) × (k ≤ 2 ^ 24) ⌝ }
+{
+    power(b.rows + b.columns)
+}
+
+fn share_of(b: Bank) -> u32
+    requires { ⌜ Bounded b ⌝ }
+    ensures { λ k. ⌜ k ≡ share b ⌝ }
+    ensures bound { λ k. ⌜ k ≤ 2 ^ 24 ⌝ }
+{
+    if b.enabled { cell_count(b) } else { 0 }
+}
+
+fn cells_below(s: Setup, n: u8) -> u32
+    requires { ⌜ Sound s × (n ≤ 8) ⌝ }
+    ensures { λ k. ⌜ k ≡ cellsBelow s n ⌝ }
+    ensures bound { λ k. ⌜ k ≤ 2 ^ 27 ⌝ }
+{
+    let mut k: u32 = 0;
+    for m in 0..n {
+        k += share_of(nth(s, m));
+    }
+    k
+}
+
+// The number of an address's doubleword within its bank: of the address itself, not of its distance from the start.
+pub(crate) fn word(b: Bank, address: u32) -> u32
+    requires { ⌜ Bounded b ⌝ }
+    ensures { λ w. ⌜ w ≡ wordOf b address ⌝ }
+    ensures bound { λ w. ⌜ w < 2 ^ 24 ⌝ }
+{
+    (address >> 3) % cell_count(b)
+}
+
+fn place_in(s: Setup, n: u8, address: u32) -> Place
+    requires { ⌜ Sound s × (n < 8) ⌝ }
+    ensures { λ p. ⌜ p ≡ placeOf s n address ⌝ }
+{
+    let b = nth(s, n);
+    let w = word(b, address);
+    let columns = b.columns;
+    Place {
+        bank: n,
+        row: Row(w >> columns),
+        column: Column(w % power(columns)),
+        cell: cells_below(s, n) + w,
+    }
+}
+
+pub(crate) fn map_address(s: Setup, address: u32) -> Mapping
+    requires { ⌜ Sound s ⌝ }
+    ensures { λ m. ⌜ paperMapping m ≡ mapped s address ⌝ }
+{
+    if !crate::judging::is_ready(s) {
+        return Mapping::Refused(Refusal::NotReady);
+    }
+    let n = bank_at(s, address >> 20);
+    if n < 8 {
+        return Mapping::At(place_in(s, n, address));
+    }
+    Mapping::NoBank
+}

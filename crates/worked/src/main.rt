@@ -1,0 +1,113 @@
+// Prints where the worked addresses of document 01 are kept, and how a bank that ends at megabyte 255, 256 or 1023 maps.
+use banks::Column;
+use banks::Mapping;
+use banks::Origin;
+use banks::Place;
+use banks::Row;
+use refusals::Refusal;
+use registers::Registers;
+
+// The record that a write leaves. A refused write leaves it as it was, and the lines printed then show it.
+fn set(r: Registers, offset: u8, value: u8) -> Registers {
+    let written = control::write(r, offset, value);
+    let next = written.registers;
+    next
+}
+
+// A span of bank 0 or 1, in megabytes.
+fn set_span(r: Registers, bank: u8, start: u32, last: u32) -> Registers {
+    let n = bank % 2;
+    let low = set(r, registers::START + n, (start % 256) as u8);
+    let whole = set(
+        low,
+        registers::START_EXTENDED + n,
+        (start / 256 % 256) as u8,
+    );
+    let end = set(whole, registers::END + n, (last % 256) as u8);
+    set(end, registers::END_EXTENDED + n, (last / 256 % 256) as u8)
+}
+
+// Enables the banks and switches memory on.
+fn switch_on(r: Registers, enabled: u8) -> Registers {
+    set(
+        set(r, registers::BANK_ENABLE, enabled),
+        registers::MEMORY,
+        8,
+    )
+}
+
+// Bank 0: MB 0 to 1, R 9. Bank 1: MB 2 to 4, R 10.
+fn worked_record() -> Registers {
+    let spans = set_span(set_span(Registers::fresh(), 0, 0, 1), 1, 2, 4);
+    switch_on(set(spans, registers::ROW_CODES, 4), 3)
+}
+
+fn print_number(name: &[u8], n: u32) {
+    io::write_all(1, name);
+    io::print_decimal(1, n as u64);
+}
+
+fn print_refusal(x: Refusal) {
+    print_number(b" refusal ", refusals::number(x) as u32);
+}
+
+fn print_place(p: Place) {
+    let row = p.row;
+    let column = p.column;
+    print_number(b" bank ", p.bank as u32);
+    print_number(b" row ", row.0);
+    print_number(b" column ", column.0);
+    print_number(b" cell ", p.cell);
+}
+
+fn print_map(r: Registers, address: u32) {
+    io::print_hex(1, address as u64, 8);
+    let mapping = banks::map(r, address);
+    match mapping {
+        Mapping::Refused(x) => print_refusal(x),
+        Mapping::NoBank => {
+            io::write_all(1, b" no bank");
+        }
+        Mapping::At(p) => print_place(p),
+    }
+    io::write_all(1, b"\n");
+}
+
+fn print_way_back(r: Registers, bank: u8, row: u32, column: u32) {
+    print_number(b"bank ", bank as u32);
+    print_number(b" row ", row);
+    print_number(b" column ", column);
+    let origin = banks::way_back(r, bank, Row(row), Column(column));
+    match origin {
+        Origin::Refused(x) => print_refusal(x),
+        Origin::Address(a) => {
+            io::write_all(1, b" address ");
+            io::print_hex(1, a as u64, 8);
+        }
+    }
+    io::write_all(1, b"\n");
+}
+
+// A bank of two megabytes: its last address, and the one after it.
+fn print_end(last: u32, end: u32, next: u32) {
+    let start = if 0 < last { last - 1 } else { 0 };
+    let r = switch_on(set_span(Registers::fresh(), 0, start, last), 1);
+    print_number(b"bank 0 from MB ", start);
+    print_number(b" to ", last);
+    io::write_all(1, b"\n");
+    print_map(r, end);
+    print_map(r, next);
+}
+
+fn main() {
+    let r = worked_record();
+    print_map(r, 0x00001008);
+    print_map(r, 0x00200000);
+    print_map(r, 0x00400000);
+    print_map(r, 0x00500000);
+    print_way_back(r, 1, 0, 0);
+    print_way_back(r, 1, 256, 0);
+    print_end(255, 0x0fffffff, 0x10000000);
+    print_end(256, 0x100fffff, 0x10100000);
+    print_end(1023, 0x3fffffff, 0x40000000);
+}
