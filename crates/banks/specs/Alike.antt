@@ -1,7 +1,7 @@
 -- "Two switched-on records are alike when every address has the same bank, row and column, or no bank, in both."
 use Prim.Native.Nat.{ℕ, _^_}
 use mathlib.Core.Bool.{Bool, true, false, cond, not, _&&_, _||_}
-use mathlib.Core.List.{List, [], _∷_}
+use mathlib.Core.List.{[], _∷_}
 use lib.Dec.{eqb}
 use Rattle.ranges.specs.Range.{every}
 use Rattle.refusals.specs.Paper.{paper, Outcome, refused, given}

@@ -1,10 +1,10 @@
 -- "From address to cell": the map.
 use Prim.Native.Nat.{ℕ, _+_, _/_, _%_, _^_}
-use mathlib.Core.Bool.{Bool, true, false, cond, _&&_}
-use mathlib.Core.List.{List, [], _∷_}
+use mathlib.Core.Bool.{Bool, cond, _&&_}
+use mathlib.Core.List.{[], _∷_}
 use mathlib.Core.Option.{Option, none, some}
 use lib.Dec.{ltb, leb}
-use Rattle.ranges.specs.Range.{first, sum}
+use Rattle.ranges.specs.Range.{sum}
 use Rattle.refusals.specs.Paper.{paper, Outcome, refused, given}
 use Rattle.banks.specs.declared.setup.Bank.{Bank}
 use Rattle.banks.specs.declared.setup.Setup.{Setup}

@@ -1,7 +1,7 @@
 -- "From address to cell": the way back.
 use Prim.Native.Nat.{ℕ, _+_, _*_, _^_}
 use mathlib.Core.Bool.{Bool, cond, _&&_}
-use mathlib.Core.List.{List, [], _∷_}
+use mathlib.Core.List.{[], _∷_}
 use lib.Dec.{ltb, eqb}
 use Rattle.ranges.specs.Range.{first}
 use Rattle.refusals.specs.Paper.{paper, Outcome, refused, given}

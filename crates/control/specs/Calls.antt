@@ -1,12 +1,11 @@
 -- The register calls: "The register record", and 1 to 4 and 11 to 14 of "When a call declines".
 use Prim.Native.Nat.{ℕ, _-_}
-use mathlib.Core.Bool.{Bool, true, false, not, cond, _&&_, _||_}
-use mathlib.Core.List.{List, [], _∷_}
-use mathlib.Core.Option.{Option, none, some}
+use mathlib.Core.Bool.{Bool, not, cond, _&&_, _||_}
+use mathlib.Core.List.{[], _∷_}
+use mathlib.Core.Option.{none, some}
 use lib.Bits.{bitAnd}
 use lib.Dec.{ltb, leb, eqb}
 use Rattle.refusals.specs.Paper.{paper, paperVerdict, Declined, refuse, _else_, Outcome, refused, given}
-use Rattle.refusals.specs.declared.Verdict.{Verdict}
 use Rattle.registers.specs.Record.{at, stored}
 use Rattle.registers.specs.declared.Registers.{Registers}
 use Rattle.banks.specs.Setup.{setupOf}

@@ -1,4 +1,3 @@
-use native.Mathlib.Omega.{arith}
 use lib.Pow.{pow-pos}
 use Rattle.banks.specs.Map.{placeOf, rowOf, columnOf}
 use borrow.Author.Needs.{needs}

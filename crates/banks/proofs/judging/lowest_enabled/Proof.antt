@@ -1,5 +1,5 @@
-use Prim.Native.Nat.{ℕ, _-_}
-use mathlib.Core.Path.{refl, ap, _∙_}
+use Prim.Native.Nat.{_-_}
+use mathlib.Core.Path.{refl, ap}
 use native.Mathlib.Omega.{arith}
 use Rattle.ranges.proofs.RangeLaws.{Looked, hit, skip, none}
 use Rattle.banks.specs.Setup.{bank}

@@ -1,5 +1,4 @@
 use borrow.Author.Tests.{lt-ltb, le-ltb, le-leb, lt-leb}
-use mathlib.Core.Path.{ap}
 use Rattle.banks.specs.Judge.{judged}
 use borrow.Author.Needs.{needs}
 use Rattle.banks.proofs.judging.verdict.Statement.{statement}

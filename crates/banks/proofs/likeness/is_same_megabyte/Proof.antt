@@ -1,5 +1,4 @@
 use borrow.Author.Tests.{lt-ltb, le-ltb, eq-eqb, ne-eqb}
-use mathlib.Core.Path.{sym}
 use Rattle.banks.specs.Megabyte.{sameMegabyte}
 use borrow.Author.Needs.{needs}
 use Rattle.banks.proofs.likeness.is_same_megabyte.Statement.{statement}
