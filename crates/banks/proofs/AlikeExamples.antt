@@ -12,7 +12,7 @@ use Rattle.refusals.specs.Paper.{given}
 use Rattle.registers.specs.Record.{at, fresh, stored}
 use Rattle.registers.specs.declared.Registers.{Registers}
 use Rattle.banks.specs.declared.setup.Setup.{Setup}
-use Rattle.banks.specs.Setup.{startOf, lastOf, enabledOf, rowBits, megabytes, fits, columnBits, bankOf, setupOf, bank, Sound}
+use Rattle.banks.specs.Setup.{startOf, lastOf, enabledOf, rowBits, megabytes, fits, columnBits, enabledBank, bankOf, setupOf, bank, Sound}
 use Rattle.banks.specs.Judge.{lowest, inverted, tooLong, faulty, meets, meetsLower, lowestMeeting, judged, ready}
 use Rattle.banks.specs.Map.{holds, bankAt, cells, wordOf, rowOf}
 use Rattle.banks.specs.Alike.{alike, compared}
@@ -53,11 +53,11 @@ compared-to m c d l p q =
 all-ready :
     ((ready (setupOne 0 0) && ready (setupOne 0 1)) ≡ true)
     × ((ready (setupOne 1 0) && ready (setupOne 1 1)) ≡ true)
-unfolding first firstOf startOf lastOf enabledOf rowBits megabytes fits columnBits bankOf setupOf lowest inverted tooLong faulty meets meetsLower lowestMeeting judged ready
+unfolding first firstOf startOf lastOf enabledOf rowBits megabytes fits columnBits enabledBank bankOf setupOf lowest inverted tooLong faulty meets meetsLower lowestMeeting judged ready
 all-ready = (refl, refl)
 
 told : (alike (setupOne 0 0) (setupOne 0 1) ≡ true) × (alike (setupOne 1 0) (setupOne 1 1) ≡ false)
-unfolding every first firstOf startOf lastOf enabledOf rowBits megabytes fits columnBits bankOf setupOf lowest holds bankAt cells wordOf rowOf samePart sameMegabyte
+unfolding every first firstOf startOf lastOf enabledOf rowBits megabytes fits columnBits enabledBank bankOf setupOf lowest holds bankAt cells wordOf rowOf samePart sameMegabyte
 told = (
   compared-to 0 0 1 (omega arith) (record { bytes = refl; ends = refl }) (record { bytes = refl; ends = refl }),
   compared-to 1 0 1 (omega arith) (record { bytes = refl; ends = refl }) (record { bytes = refl; ends = refl }),

@@ -14,7 +14,7 @@ use Rattle.registers.specs.Record.{at}
 use Rattle.registers.specs.declared.Registers.{Registers}
 use Rattle.banks.specs.declared.setup.Bank.{Bank}
 use Rattle.banks.specs.declared.setup.Setup.{Setup}
-use Rattle.banks.specs.Setup.{startOf, lastOf, rowBits, megabytes, fits, columnBits, bankOf, setupOf, offBank, bank}
+use Rattle.banks.specs.Setup.{startOf, lastOf, enabledOf, rowBits, megabytes, fits, columnBits, enabledBank, bankOf, setupOf, offBank, bank}
 use Rattle.banks.specs.Setup.{Bounded, AllBounded, Sound}
 use Rattle.banks.specs.Map.{cells}
 
@@ -34,9 +34,9 @@ columns-to : (R L : ℕ) → 8 ≤ R → columnBits R L ≤ R
 unfolding columnBits
 columns-to R L h = first-le (fits R L) R 8 h
 
-pub decoded-bank : (r : Registers) (n : ℕ) → Decoded (bankOf r n)
-unfolding bankOf rowBits
-decoded-bank r n =
+decoded-enabled : (r : Registers) (n : ℕ) → Decoded (enabledBank r n)
+unfolding enabledBank rowBits
+decoded-enabled r n =
     record {
       rows-least = omega arith;
       rows-most = omega arith;
@@ -49,6 +49,10 @@ decoded-off : Decoded offBank
 unfolding columnBits first firstOf fits megabytes
 decoded-off =
     record { rows-least = omega arith; rows-most = omega arith; columns-least = omega arith; columns-most = omega arith; columns-are = refl }
+
+pub decoded-bank : (r : Registers) (n : ℕ) → Decoded (bankOf r n)
+unfolding bankOf
+decoded-bank r n = byCases (enabledOf r n) (λ t. rw t (decoded-enabled r n)) (λ t. rw t decoded-off)
 
 -- ---- the eight banks of a set-up, and past them a bank that is off
 -- banks n, n + 1, .., n + k - 1
@@ -82,7 +86,7 @@ decoded r n =
     (λ t. rw (bank-past r n (ltb-false n 8 t)) decoded-off)
 
 -- ---- bounds that also want the bytes of the record to be bytes
-bounded-off : Bounded offBank
+pub bounded-off : Bounded offBank
 bounded-off =
     record {
       start-most = omega arith;
@@ -112,10 +116,10 @@ bank-there s h n x l = there (s .banks) n x offBank (omega (arith, h .0))
 
 -- in a record of bytes each bank keeps to the bounds
 module _ (r : Registers) (h : (o : ℕ) → o < 256 → at r o < 256) where
-  bounded-bank : (n : ℕ) → n < 8 → Bounded (bankOf r n)
-  unfolding bankOf startOf lastOf
-  bounded-bank n l =
-      let d = decoded-bank r n in
+  bounded-enabled : (n : ℕ) → n < 8 → Bounded (enabledBank r n)
+  unfolding enabledBank startOf lastOf
+  bounded-enabled n l =
+      let d = decoded-enabled r n in
       record {
         start-most = omega (arith, h (0x80 + n) (omega arith));
         last-most = omega (arith, h (0x90 + n) (omega arith));
@@ -124,6 +128,10 @@ module _ (r : Registers) (h : (o : ℕ) → o < 256 → at r o < 256) where
         columns-least = d .columns-least;
         columns-most = omega (arith, d .rows-most, d .columns-most);
       }
+
+  bounded-bank : (n : ℕ) → n < 8 → Bounded (bankOf r n)
+  unfolding bankOf
+  bounded-bank n l = byCases (enabledOf r n) (λ t. rw t (bounded-enabled n l)) (λ t. rw t bounded-off)
 
   pub sound-of : Sound (setupOf r)
   unfolding setupOf

@@ -13,3 +13,4 @@ pub mod InverseLaws
 pub mod MegabyteLaws
 pub mod AlikeLaws
 pub mod AlikeExamples
+pub mod MappedLaws

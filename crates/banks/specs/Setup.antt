@@ -1,6 +1,6 @@
 -- "The register record": the set-up of the banks, which is all that judging a record and finding a cell read of it.
 use Prim.Native.Nat.{ℕ, _+_, _-_, _*_, _/_, _%_, _^_, _≤_, _<_}
-use mathlib.Core.Bool.{Bool, false}
+use mathlib.Core.Bool.{Bool, true, false, cond}
 use mathlib.Core.List.{List, [], _∷_}
 use mathlib.Core.Path.{_≡_}
 use lib.ListN.{length, getD}
@@ -39,15 +39,23 @@ fits R L C = leb (L * 2 ^ 20) (2 ^ (R + C + 3))
 unfoldable pub columnBits : ℕ → ℕ → ℕ
 columnBits R L = first (fits R L) R 8
 
-unfoldable pub bankOf : Registers → ℕ → Bank
-bankOf r n =
+-- an enabled bank
+unfoldable pub enabledBank : Registers → ℕ → Bank
+enabledBank r n =
     record {
-      enabled = enabledOf r n;
+      enabled = true;
       start = startOf r n;
       last = lastOf r n;
       rows = rowBits r n;
       columns = columnBits (rowBits r n) (megabytes (startOf r n) (lastOf r n));
     }
+
+-- a bank that is off, of the smallest size: of such a one no other field is ever asked
+abbrev pub offBank : Bank
+offBank = record { enabled = false; start = 0; last = 0; rows = 9; columns = 8 }
+
+unfoldable pub bankOf : Registers → ℕ → Bank
+bankOf r n = cond (enabledOf r n) (enabledBank r n) offBank
 
 -- "F2: bit 3 switches memory on"
 unfoldable pub setupOf : Registers → Setup
@@ -57,10 +65,7 @@ setupOf r =
       banks = bankOf r 0 ∷ bankOf r 1 ∷ bankOf r 2 ∷ bankOf r 3 ∷ bankOf r 4 ∷ bankOf r 5 ∷ bankOf r 6 ∷ bankOf r 7 ∷ [];
     }
 
--- a bank that is off, of the smallest size: what stands past bank 7
-abbrev pub offBank : Bank
-offBank = record { enabled = false; start = 0; last = 0; rows = 9; columns = 8 }
-
+-- bank n; past bank 7 stand banks that are off
 abbrev pub bank : Setup → ℕ → Bank
 bank s n = getD (s .banks) n offBank
 

@@ -29,7 +29,10 @@ fn is_faulty(b: Bank) -> bool
     requires { ⌜ Bounded b ⌝ }
     ensures { λ t. ⌜ t ≡ faulty b ⌝ }
 {
-    b.enabled & (is_inverted(b) | is_too_long(b))
+    if b.enabled {
+        return is_inverted(b) | is_too_long(b);
+    }
+    false
 }
 
 fn spans_meet(b: Bank, c: Bank) -> bool
@@ -81,7 +84,10 @@ fn meets_lower(s: Setup, n: u8) -> bool
     ensures { λ t. ⌜ t ≡ meetsLower s n ⌝ }
 {
     let b = nth(s, n);
-    b.enabled & (lowest_met(s, b, n) < n)
+    if b.enabled {
+        return lowest_met(s, b, n) < n;
+    }
+    false
 }
 
 fn lowest_meeting(s: Setup) -> u8
@@ -106,7 +112,7 @@ fn fault(b: Bank, n: u8) -> Refusal
     }
 }
 
-pub(crate) fn verdict(s: Setup) -> Verdict
+pub fn verdict(s: Setup) -> Verdict
     requires { ⌜ Sound s ⌝ }
     ensures { λ v. ⌜ paperVerdict v ≡ judged s ⌝ }
 {
@@ -134,7 +140,7 @@ fn is_accepted(v: Verdict) -> bool
 }
 
 // Memory is on, and the set-up may be.
-pub(crate) fn is_ready(s: Setup) -> bool
+pub fn is_ready(s: Setup) -> bool
     requires { ⌜ Sound s ⌝ }
     ensures { λ t. ⌜ t ≡ ready s ⌝ }
 {

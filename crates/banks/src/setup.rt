@@ -3,7 +3,7 @@ ghost use mathlib.Core.Path.{_≡_};
 ghost use Prim.Native.Nat.{_+_, _*_, _/_, _%_, _^_, _≤_, _<_};
 ghost use lib.Dec.{eqb};
 ghost use Rattle.registers.specs.Record.{at};
-ghost use Rattle.banks.specs.Setup.{Bounded, Sound, megabytes, fits, columnBits, bankOf, setupOf, bank};
+ghost use Rattle.banks.specs.Setup.{Bounded, Sound, megabytes, fits, columnBits, enabledBank, bankOf, setupOf, bank};
 use registers::Registers;
 
 pub struct Bank {
@@ -45,7 +45,7 @@ fn ten_bits(low: u8, extended: u8) -> u32
 }
 
 // The span of a bank in megabytes; none where its start is above its end.
-pub(crate) fn length(start: u32, last: u32) -> u32
+pub fn length(start: u32, last: u32) -> u32
     requires { ⌜ (start < 1024) × (last < 1024) ⌝ }
     ensures { λ r. ⌜ r ≡ megabytes start last ⌝ }
     ensures bound { λ r. ⌜ r ≤ 1024 ⌝ }
@@ -54,7 +54,7 @@ pub(crate) fn length(start: u32, last: u32) -> u32
 }
 
 // So many megabytes have room in these rows and columns.
-pub(crate) fn has_room(rows: u32, columns: u32, length: u32) -> bool
+pub fn has_room(rows: u32, columns: u32, length: u32) -> bool
     requires { ⌜ (rows + columns < 32) × (length ≤ 1024) ⌝ }
     ensures { λ r. ⌜ r ≡ fits rows length columns ⌝ }
 {
@@ -74,9 +74,9 @@ fn column_bits(rows: u32, length: u32) -> u32
     rows
 }
 
-fn bank_of(r: Registers, n: u8) -> Bank
+fn enabled_bank(r: Registers, n: u8) -> Bank
     requires { ⌜ n < 8 ⌝ }
-    ensures { λ b. ⌜ b ≡ bankOf r n ⌝ }
+    ensures { λ b. ⌜ b ≡ enabledBank r n ⌝ }
     ensures bound { λ b. ⌜ Bounded b ⌝ }
 {
     let start = ten_bits(
@@ -90,7 +90,7 @@ fn bank_of(r: Registers, n: u8) -> Bank
     let code = two_bits(r.byte(registers::ROW_CODES + n / 4), n % 4 * 2);
     let rows = 9 + code as u32;
     Bank {
-        enabled: bit(r.byte(registers::BANK_ENABLE), n),
+        enabled: true,
         start: start,
         last: last,
         rows: rows,
@@ -98,13 +98,30 @@ fn bank_of(r: Registers, n: u8) -> Bank
     }
 }
 
-pub(crate) fn memory_on(r: Registers) -> bool
+fn bank_of(r: Registers, n: u8) -> Bank
+    requires { ⌜ n < 8 ⌝ }
+    ensures { λ b. ⌜ b ≡ bankOf r n ⌝ }
+    ensures bound { λ b. ⌜ Bounded b ⌝ }
+{
+    if bit(r.byte(registers::BANK_ENABLE), n) {
+        return enabled_bank(r, n);
+    }
+    Bank {
+        enabled: false,
+        start: 0,
+        last: 0,
+        rows: 9,
+        columns: 8,
+    }
+}
+
+pub fn memory_on(r: Registers) -> bool
     ensures { λ t. ⌜ t ≡ setupOf r .on ⌝ }
 {
     bit(r.byte(registers::MEMORY), 3)
 }
 
-pub(crate) fn setup_of(r: Registers) -> Setup
+pub fn setup_of(r: Registers) -> Setup
     ensures { λ s. ⌜ s ≡ setupOf r ⌝ }
     ensures bound { λ s. ⌜ Sound s ⌝ }
 {
@@ -123,7 +140,7 @@ pub(crate) fn setup_of(r: Registers) -> Setup
     }
 }
 
-pub(crate) fn nth(s: Setup, n: u8) -> Bank
+pub fn nth(s: Setup, n: u8) -> Bank
     requires { ⌜ Sound s × (n < 8) ⌝ }
     ensures { λ b. ⌜ b ≡ bank s n ⌝ }
     ensures bound { λ b. ⌜ Bounded b ⌝ }

@@ -1,95 +1,26 @@
-use native.Mathlib.Omega.{arith}
-use Rattle.banks.specs.Setup.{startOf, lastOf, enabledOf, rowBits, bankOf}
+use Rattle.banks.specs.Setup.{enabledOf, bankOf}
+use Rattle.banks.proofs.FieldLaws.{bounded-off}
 use borrow.Author.Needs.{needs}
 use Rattle.banks.proofs.setup.bank_of.Statement.{statement}
 use Rattle.banks.proofs.setup.bank_of.Tie as tie
 
-add-byte : tie.Need-add-byte
-add-byte c = search needs
-
 byte-requires : tie.Need-byte-requires
 byte-requires c κs = search needs
-
-add-byte-2 : tie.Need-add-byte-2
-add-byte-2 c = search needs
-
-byte-requires-2 : tie.Need-byte-requires-2
-byte-requires-2 c κs = search needs
-
-ten-bits-requires : tie.Need-ten-bits-requires
-ten-bits-requires c κs = search needs
-
-add-byte-3 : tie.Need-add-byte-3
-add-byte-3 c = search needs
-
-byte-requires-3 : tie.Need-byte-requires-3
-byte-requires-3 c κs = search needs
-
-add-byte-4 : tie.Need-add-byte-4
-add-byte-4 c = search needs
-
-byte-requires-4 : tie.Need-byte-requires-4
-byte-requires-4 c κs = search needs
-
-ten-bits-requires-2 : tie.Need-ten-bits-requires-2
-ten-bits-requires-2 c κs = search needs
-
-add-byte-5 : tie.Need-add-byte-5
-add-byte-5 c = search needs
-
-byte-requires-5 : tie.Need-byte-requires-5
-byte-requires-5 c κs = search needs
-
-mul-two-bits : tie.Need-mul-two-bits
-mul-two-bits c = search needs
-
-two-bits-requires : tie.Need-two-bits-requires
-two-bits-requires c κs = search needs
-
-cast-rows : tie.Need-cast-rows
-cast-rows c = search needs
-
-add-rows : tie.Need-add-rows
-add-rows c = search needs
-
-byte-requires-6 : tie.Need-byte-requires-6
-byte-requires-6 c κs = search needs
 
 bit-requires : tie.Need-bit-requires
 bit-requires c κs = search needs
 
-length-requires : tie.Need-length-requires
-length-requires c κs = search needs
-
-column-bits-requires : tie.Need-column-bits-requires
-column-bits-requires c κs = search needs
+enabled-bank-requires : tie.Need-enabled-bank-requires
+enabled-bank-requires c κs = search needs
 
 returns : tie.Need-returns
-unfolding bankOf startOf lastOf enabledOf rowBits
-returns c = (cc, record { start-most = omega arith; last-most = omega arith; rows-least = omega arith; rows-most = omega arith; columns-least = omega arith; columns-most = omega arith })
+unfolding bankOf enabledOf
+returns c = (simp (← c .before .before .before .byte .ensures, ← c .before .before .bit .ensures, c .before .if1 .taken, c .enabled-bank .ensures .0), c .enabled-bank .ensures .1)
+
+returns-2 : tie.Need-returns-2
+unfolding bankOf enabledOf
+returns-2 c = (simp (← c .before .before .byte .ensures, ← c .before .bit .ensures, c .if1 .left), bounded-off)
 
 pub bank-of-spec : {M : Type 1} → statement M
 bank-of-spec =
-    tie.close
-    (tie.spec
-    add-byte
-    byte-requires
-    add-byte-2
-    byte-requires-2
-    ten-bits-requires
-    add-byte-3
-    byte-requires-3
-    add-byte-4
-    byte-requires-4
-    ten-bits-requires-2
-    add-byte-5
-    byte-requires-5
-    mul-two-bits
-    two-bits-requires
-    cast-rows
-    add-rows
-    byte-requires-6
-    bit-requires
-    length-requires
-    column-bits-requires
-    returns)
+    tie.close (tie.spec byte-requires bit-requires enabled-bank-requires returns returns-2)

@@ -1,0 +1,106 @@
+-- What each call comes to, by the target of its access and what the cell gives: for the proofs of the calls' code.
+-- Assumes nothing.
+use Prim.Native.Nat.{ℕ, _+_, _%_, _≤_, _<_}
+use mathlib.Core.Path.{_≡_, refl, sym, ap, _∙_}
+use mathlib.Core.Bool.{Bool, true, false, not, cond}
+use mathlib.Core.Option.{Option, none, some}
+use mathlib.Core.List.{List, [], _∷_, _++_, append-nil}
+use native.Mathlib.Omega.{arith}
+use lib.ListN.{length, take, drop, replicate}
+use borrow.Author.Tests.{eq-eqb, ne-eqb}
+use Rattle.ranges.proofs.RangeLaws.{byCases}
+use Rattle.refusals.specs.Paper.{Declined, refuse, _else_, refused, given}
+use Rattle.registers.specs.declared.Registers.{Registers}
+use Rattle.banks.specs.Setup.{setupOf}
+use Rattle.banks.specs.Judge.{ready}
+use Rattle.banks.specs.Map.{inSpan, cellOf}
+use Rattle.banks.proofs.CommonLaws.{never}
+use Rattle.banks.proofs.MapLaws.{map-laws}
+use Rattle.ecc.specs.declared.Reading.{Reading}
+use Rattle.ecc.specs.declared.Reading.the-variants as reading
+use Rattle.ecc.specs.declared.Loaded.{Loaded}
+use Rattle.ecc.specs.declared.LoadedCell.{LoadedCell}
+use Rattle.ecc.specs.declared.CellReading.{CellReading}
+use Rattle.ecc.specs.declared.CellReading.the-variants as cell
+use Rattle.ecc.specs.declared.CellChange.{CellChange}
+use Rattle.ecc.specs.declared.CellChange.the-variants as change
+use Rattle.ecc.specs.Code.{flipBit}
+use Rattle.ecc.specs.Cell.{encode, loadOf}
+use Rattle.ecc.specs.Lending.{cellAt, putCell, isLent, lentReading, notLent, loadAt, changeAt}
+use Rattle.memory.specs.declared.Kind.{Kind}
+use Rattle.memory.specs.declared.Kind.the-variants.{Stored, NoBank, Flipped}
+use Rattle.memory.specs.Access.{Access, read, write, flip, scrub, addressOf}
+use Rattle.memory.specs.Spans.{byArguments, byCount, byBit, bySpans, turnedAway, missed}
+use Rattle.memory.specs.Errors.{reported}
+use Rattle.memory.specs.Cells.{answerOf, merge, readCell, unlessLost, mergeCell, writeCell, ifCorrected, scrubCell, onCell}
+use Rattle.memory.specs.Calls.{State, spansOf, unlentAt, refusal, putAt, Effect, called, readCall, writeCall, flipCall, scrubCall}
+use Rattle.memory.specs.Aim.{early, isRight, isCorrected}
+use Rattle.memory.proofs.CallLaws.{else-none, refusal-unready, refusal-ready, called-refused, called-missed, doneAt, called-at}
+use Rattle.memory.proofs.AimLaws.{Early, early-none, count-fits}
+
+-- a refused call leaves everything as it was
+abbrev pub unchanged : Registers → List ℕ → List ℕ → List ℕ → Effect
+unchanged r cells buffer n = record { answer = refused n; registers = r; cells = cells; buffer = buffer }
+
+-- ---- what a lent cell tells
+module _ (cols cells : List ℕ) (k : ℕ) (l : LoadedCell) (q : l ≡ loadAt cols cells k) where
+  pub load-unlent : l .reading ≡ cell.NotLent → isLent cells k ≡ false
+  unfolding loadAt lentReading
+  load-unlent h =
+      byCases (isLent cells k)
+      (λ t. let e : l .reading ≡ cell.Lent (loadOf cols (cellAt cells k) .reading) = rw t at (ap (λ (x : LoadedCell). x .reading) q) in never (cc))
+      (λ t. t)
+
+  pub record Here (rd : Reading) : Type 0 where
+    pub lent : isLent cells k ≡ true
+    pub reads : loadOf cols (cellAt cells k) .reading ≡ rd
+    pub bytes-are : l .bytes ≡ loadOf cols (cellAt cells k) .bytes
+
+  pub load-lent : (rd : Reading) → l .reading ≡ cell.Lent rd → Here rd
+  unfolding loadAt lentReading notLent
+  load-lent rd h =
+      byCases (isLent cells k)
+      (λ t.
+      let e : l .reading ≡ cell.Lent (loadOf cols (cellAt cells k) .reading) = rw t at (ap (λ (x : LoadedCell). x .reading) q) in
+      record { lent = t; reads = cc; bytes-are = rw t at (ap (λ (x : LoadedCell). x .bytes) q) })
+      (λ t. let e : l .reading ≡ cell.NotLent = rw t at (ap (λ (x : LoadedCell). x .reading) q) in never (cc))
+
+module _ (cells : List ℕ) (k : ℕ) (x : CellChange) (q : x ≡ changeAt cells k) where
+  pub change-unlent : x ≡ change.NotLent → isLent cells k ≡ false
+  unfolding changeAt
+  change-unlent h = byCases (isLent cells k) (λ t. let e : x ≡ change.Changed = rw t at q in never (cc)) (λ t. t)
+
+  pub change-lent : x ≡ change.Changed → isLent cells k ≡ true
+  unfolding changeAt
+  change-lent h = byCases (isLent cells k) (λ t. t) (λ t. let e : x ≡ change.NotLent = rw t at q in never (cc))
+
+module _ (r : Registers) (cells : List ℕ) (x : Access) where
+  -- an early refusal is the call's
+  pub early-refused : (cols buffer n : List ℕ) → early (setupOf r) (byArguments x) ≡ some n → called cols r cells x buffer ≡ unchanged r cells buffer n
+  unfolding early turnedAway
+  early-refused cols buffer n h =
+      called-refused r cells x cols buffer n
+      (byCases (ready (setupOf r))
+      (λ t. let b : byArguments x ≡ some n = rw t at h in refusal-ready r cells x t ∙ rw b)
+      (λ t. let b : some (5 ∷ []) ≡ some n = rw t at h in refusal-unready r cells x t ∙ b))
+
+  module _ (e : early (setupOf r) (byArguments x) ≡ none) where
+    -- what is left of the refusals after the early ones
+    pub refusal-late : refusal (record { registers = r; cells = cells }) x ≡ (bySpans (spansOf (setupOf r)) x else unlentAt (cellOf (setupOf r) (addressOf x)) cells)
+    unfolding turnedAway
+    refusal-late = let f = early-none (setupOf r) (byArguments x) e in refusal-ready r cells x (f .on) ∙ rw (f .none-yet)
+
+    module _ (s : bySpans (spansOf (setupOf r)) x ≡ none) (cols buffer : List ℕ) where
+      pub late-missed : cellOf (setupOf r) (addressOf x) ≡ none
+          → called cols r cells x buffer
+          ≡ record { answer = given (missed x .kind ∷ []); registers = reported NoBank (addressOf x) r; cells = cells; buffer = missed x .bytes }
+      unfolding unlentAt
+      late-missed i = called-missed r cells x cols buffer (refusal-late ∙ rw (s, i)) i
+
+      pub late-unlent : (k : ℕ) → cellOf (setupOf r) (addressOf x) ≡ some k → isLent cells k ≡ false → called cols r cells x buffer ≡ unchanged r cells buffer (9 ∷ [])
+      unfolding unlentAt
+      late-unlent k i h = called-refused r cells x cols buffer (9 ∷ []) (refusal-late ∙ rw (s, i, h))
+
+      pub late-done : (k : ℕ) → cellOf (setupOf r) (addressOf x) ≡ some k → isLent cells k ≡ true → called cols r cells x buffer ≡ doneAt r cells x cols buffer k
+      unfolding unlentAt
+      late-done k i h = called-at r cells x cols buffer k (refusal-late ∙ rw (s, i, h)) i

@@ -1,0 +1,12 @@
+pub mod Octets
+pub mod Doubleword
+pub mod ErrorLaws
+pub mod Simulation
+pub mod Premise
+pub mod Comparison
+pub mod Corollaries
+pub mod Examples
+pub mod CallLaws
+pub mod AimLaws
+pub mod AccessLaws
+pub mod CellCalls

@@ -1,0 +1,175 @@
+-- The premise on a list gives what the comparison rests on: no flip that is accepted finds a mark.
+-- Assumes nothing.
+use Prim.Native.Nat.{ℕ, zero, suc, _*_, _/_, _≤_, _<_, suc-le-suc}
+use mathlib.Core.Path.{_≡_, refl, sym, _∙_}
+use mathlib.Core.Bool.{Bool, true, false, not, cond, _&&_, _||_}
+use mathlib.Core.Option.{Option, none, some}
+use mathlib.Core.List.{List, [], _∷_, _++_}
+use native.Mathlib.Omega.{arith}
+use native.Mathlib.Nat.{le-of-suc-le-suc, not-suc-le-zero}
+use lib.Dec.{eqb}
+use borrow.Author.Tests.{eqb-true, eqb-false, eq-eqb}
+use Rattle.ranges.proofs.Bools.{and-right, or-left, or-right}
+use Rattle.ranges.proofs.RangeLaws.{byCases, contra}
+use Rattle.refusals.specs.Paper.{Declined}
+use Rattle.memory.specs.Access.{Access, read, write, flip, scrub, addressOf, parts, Call, memory, readRegister, writeRegister}
+use Rattle.memory.specs.Spans.{Spans, turnedAway, missed}
+use Rattle.memory.specs.Flat.{Flat, marked, flatHeld, flatAccess, blank}
+use Rattle.memory.specs.Comparison.{ifAccepted, acceptedOf, flips, renews, anyOf, flippedAt, renewedAt, Spaced}
+use Rattle.memory.proofs.Doubleword.{Fresh}
+
+-- the accepted accesses of a list, in order
+unfoldable pub acceptedAll : Spans → List Call → List Access
+acceptedAll spans [] = []
+acceptedAll spans (c ∷ cs) = acceptedOf spans c ++ acceptedAll spans cs
+
+-- ---- from places of the list to its accepted accesses
+
+-- before the first flip of doubleword q stands a write or a scrub of it
+unfoldable renewedFirst : ℕ → List Access → Bool
+renewedFirst q [] = true
+renewedFirst q (x ∷ xs) = renews q x || not (flips q x) && renewedFirst q xs
+
+-- the same, behind each flip
+abbrev Apart : List Access → Type 0
+Apart [] = Unit {0}
+Apart (x ∷ xs) = ((q : ℕ) → flips q x ≡ true → renewedFirst q xs ≡ true) × Apart xs
+
+skip : (q : ℕ) (xs ys : List Access) → anyOf (flips q) xs ≡ false → (anyOf (renews q) xs ≡ false → renewedFirst q ys ≡ true)
+    → renewedFirst q (xs ++ ys) ≡ true
+unfolding anyOf renewedFirst
+skip q [] ys n k = k refl
+skip q (x ∷ xs) ys n k = go (renews q x) refl (skip q xs ys (or-right (flips q x) (anyOf (flips q) xs) n))
+  where
+    go : (t : Bool) → renews q x ≡ t → ((anyOf (renews q) xs ≡ false → renewedFirst q ys ≡ true) → renewedFirst q (xs ++ ys) ≡ true)
+        → (t || not (flips q x) && renewedFirst q (xs ++ ys)) ≡ true
+    go true e more = refl
+    go false e more = rw (or-left (flips q x) (anyOf (flips q) xs) n) (more (λ m. k (rw e m)))
+
+module _ (spans : Spans) where
+  -- at some place before the next flip of q it takes a write or a scrub
+  abbrev Waiting : ℕ → List Call → Type 0
+  Waiting q cs = (j : ℕ) → flippedAt spans cs q j ≡ true → (k : ℕ) × (k < j) × (renewedAt spans cs q k ≡ true)
+
+  waiting-tail : (q : ℕ) (c : Call) (cs : List Call) → anyOf (renews q) (acceptedOf spans c) ≡ false → Waiting q (c ∷ cs) → Waiting q cs
+  waiting-tail q c cs n w j e = go (w (suc j) e .0) (w (suc j) e .1) (w (suc j) e .2)
+    where
+      go : (k : ℕ) → k < suc j → renewedAt spans (c ∷ cs) q k ≡ true → (k : ℕ) × (k < j) × (renewedAt spans cs q k ≡ true)
+      go zero h t = contra t n
+      go (suc k) h t = (k, le-of-suc-le-suc h, t)
+
+  waiting : (q : ℕ) (cs : List Call) → Waiting q cs → renewedFirst q (acceptedAll spans cs) ≡ true
+  unfolding acceptedAll renewedFirst
+  waiting q [] w = refl
+  waiting q (c ∷ cs) w =
+      skip q (acceptedOf spans c) (acceptedAll spans cs)
+      (byCases (anyOf (flips q) (acceptedOf spans c)) (λ t. absurd (not-suc-le-zero (w 0 t .1))) (λ t. t))
+      (λ n. waiting q cs (waiting-tail q c cs n w))
+
+  -- a place behind the first
+  behind : (q : ℕ) (c : Call) (cs : List Call) (i j : ℕ) → (k : ℕ) × (i < k) × (k < suc j) × (renewedAt spans (c ∷ cs) q k ≡ true)
+      → (k : ℕ) × (i ≤ k) × (k < j) × (renewedAt spans cs q k ≡ true)
+  behind q c cs i j (zero, l, u, t) = absurd (not-suc-le-zero l)
+  behind q c cs i j (suc k, l, u, t) = (k, le-of-suc-le-suc l, le-of-suc-le-suc u, t)
+
+  spaced-tail : (c : Call) (cs : List Call) → Spaced spans (c ∷ cs) → Spaced spans cs
+  unfolding Spaced
+  spaced-tail c cs s q i j h t u = behind q c cs (suc i) j (s q (suc i) (suc j) (suc-le-suc h) t u)
+
+  after-flip : (q : ℕ) (c : Call) (cs : List Call) → Spaced spans (c ∷ cs) → anyOf (flips q) (acceptedOf spans c) ≡ true → Waiting q cs
+  unfolding Spaced
+  after-flip q c cs s t j u =
+      let r = behind q c cs 0 j (s q 0 (suc j) (omega arith) t u) in
+      (r .0, r .2, r .3)
+
+  apart : (cs : List Call) → Spaced spans cs → Apart (acceptedAll spans cs)
+  unfolding acceptedAll acceptedOf parts anyOf
+  apart [] s = tt
+  apart (readRegister o ∷ cs) s = apart cs (spaced-tail (readRegister o) cs s)
+  apart (writeRegister o v ∷ cs) s = apart cs (spaced-tail (writeRegister o v) cs s)
+  apart (memory x ∷ cs) s = go (turnedAway spans x) refl (apart cs (spaced-tail (memory x) cs s))
+    where
+      go : (d : Declined) → turnedAway spans x ≡ d → Apart (acceptedAll spans cs) → Apart (ifAccepted d (parts x) ++ acceptedAll spans cs)
+      go (some n) e rest = rest
+      go none e rest = (λ q t. waiting q cs (after-flip q (memory x) cs s (rw (e, t))), rest)
+
+-- ---- along the flat machine's run
+
+-- each flip finds no mark
+abbrev pub Gentle : Spans → Flat → List Access → Type 0
+Gentle spans f [] = Unit {0}
+Gentle spans f (x ∷ xs) = Fresh f x × Gentle spans (flatAccess spans f x .1) xs
+
+-- what a standing mark of doubleword q asks of the rest of the list
+abbrev Due : Spans → Option ℕ → ℕ → List Access → Type 0
+Due spans none q xs = Unit {0}
+Due spans (some b) q xs = (spans .holds (8 * q) ≡ true) × (renewedFirst q xs ≡ true)
+
+due-tail : (spans : Spans) (m : Option ℕ) (q : ℕ) (x : Access) (xs : List Access) → (spans .holds (8 * q) ≡ true → renews q x ≡ false)
+    → Due spans m q (x ∷ xs) → Due spans m q xs
+unfolding renewedFirst
+due-tail spans none q x xs n d = tt
+due-tail spans (some b) q x xs n d =
+    (d .0, and-right (not (flips q x)) (renewedFirst q xs) (rw (n (d .0)) at (d .1)))
+
+module _ (spans : Spans) (steady : (a b : ℕ) → a / 8 ≡ b / 8 → spans .holds a ≡ spans .holds b) where
+  marked-due : (m : ℕ → Option ℕ) (v : Option ℕ) (a : ℕ) (xs : List Access) → Due spans v (a / 8) xs
+      → ((q : ℕ) → (a / 8 ≡ q → ⊥) → Due spans (m q) q xs) → (q : ℕ) → Due spans (marked m (a / 8) v q) q xs
+  unfolding marked
+  marked-due m v a xs hv hm q = go (eqb q (a / 8)) refl
+    where
+      go : (t : Bool) → eqb q (a / 8) ≡ t → Due spans (cond t v (m q)) q xs
+      go true e = rw (eqb-true q (a / 8) e) hv
+      go false e = hm q (λ p. eqb-false q (a / 8) e (sym p))
+
+  holds-alike : (a q : ℕ) → a / 8 ≡ q → spans .holds a ≡ spans .holds (8 * q)
+  holds-alike a q e = steady a (8 * q) (omega arith)
+
+  other : (a q : ℕ) → (a / 8 ≡ q → ⊥) → eqb (a / 8) q ≡ false
+  other a q ne = byCases (eqb (a / 8) q) (λ t. absurd (ne (eqb-true (a / 8) q t))) (λ t. t)
+
+  -- the marks after an access, by the marks before: where a bank is selected, and where none is
+  due-held : (f : Flat) (x : Access) (xs : List Access) → spans .holds (addressOf x) ≡ true → Apart (x ∷ xs)
+      → ((q : ℕ) → Due spans (f .mark q) q (x ∷ xs)) → (q : ℕ) → Due spans (flatHeld f x .1 .mark q) q xs
+  unfolding flatHeld renews flips
+  due-held f (read a n) xs t s d = λ q. due-tail spans (f .mark q) q (read a n) xs (λ w. refl) (d q)
+  due-held f (write a bs) xs t s d = marked-due (f .mark) none a xs tt (λ q ne. due-tail spans (f .mark q) q (write a bs) xs (λ w. other a q ne) (d q))
+  due-held f (scrub a) xs t s d = marked-due (f .mark) none a xs tt (λ q ne. due-tail spans (f .mark q) q (scrub a) xs (λ w. other a q ne) (d q))
+  due-held f (flip a b) xs t s d =
+      marked-due (f .mark) (some b) a xs (sym (holds-alike a (a / 8) refl) ∙ t, s .0 (a / 8) (eq-eqb (a / 8) (a / 8) refl))
+      (λ q ne. due-tail spans (f .mark q) q (flip a b) xs (λ w. refl) (d q))
+
+  not-held : (x : Access) (q : ℕ) → spans .holds (addressOf x) ≡ false → spans .holds (8 * q) ≡ true → renews q x ≡ false
+  unfolding renews
+  not-held (read a n) q h y = refl
+  not-held (write a bs) q h y = other a q (λ e. contra (holds-alike a q e ∙ y) h)
+  not-held (flip a b) q h y = refl
+  not-held (scrub a) q h y = other a q (λ e. contra (holds-alike a q e ∙ y) h)
+
+  due-next : (f : Flat) (x : Access) (xs : List Access) → Apart (x ∷ xs) → ((q : ℕ) → Due spans (f .mark q) q (x ∷ xs))
+      → (q : ℕ) → Due spans (flatAccess spans f x .1 .mark q) q xs
+  unfolding flatAccess
+  due-next f x xs s d q = go (spans .holds (addressOf x)) refl
+    where
+      go : (t : Bool) → spans .holds (addressOf x) ≡ t → Due spans (cond t (flatHeld f x) (missed x, f) .1 .mark q) q xs
+      go true e = due-held f x xs e s d q
+      go false e = due-tail spans (f .mark q) q x xs (not-held x q e) (d q)
+
+  fresh : (f : Flat) (x : Access) (xs : List Access) → ((q : ℕ) → Due spans (f .mark q) q (x ∷ xs)) → Fresh f x
+  unfolding renewedFirst renews flips
+  fresh f (read a n) xs d = tt
+  fresh f (write a bs) xs d = tt
+  fresh f (scrub a) xs d = tt
+  fresh f (flip a b) xs d = go (f .mark (a / 8)) (d (a / 8))
+    where
+      go : (m : Option ℕ) → Due spans m (a / 8) (flip a b ∷ xs) → m ≡ none
+      go none h = refl
+      go (some c) h = contra (rw (eq-eqb (a / 8) (a / 8) refl) at (h .1)) refl
+
+  gentle : (xs : List Access) (f : Flat) → Apart xs → ((q : ℕ) → Due spans (f .mark q) q xs) → Gentle spans f xs
+  gentle [] f s d = tt
+  gentle (x ∷ xs) f s d = (fresh f x xs d, gentle xs (flatAccess spans f x .1) (s .1) (due-next f x xs s d))
+
+  pub spaced-gentle : (cs : List Call) → Spaced spans cs → Gentle spans blank (acceptedAll spans cs)
+  unfolding blank
+  spaced-gentle cs s = gentle (acceptedAll spans cs) blank (apart spans cs s) (λ q. tt)

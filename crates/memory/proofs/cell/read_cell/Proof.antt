@@ -1,0 +1,63 @@
+use mathlib.Core.Path.{sym}
+use Rattle.ecc.specs.Columns.{columns}
+use Rattle.memory.proofs.AimLaws.{early-none, count-fits}
+use Rattle.memory.proofs.AccessLaws.{load-unlent, load-lent}
+use Rattle.memory.proofs.CellCalls.{read-unlent, read-done}
+use borrow.Author.Needs.{needs}
+use Rattle.memory.proofs.cell.read_cell.Statement.{statement}
+use Rattle.memory.proofs.cell.read_cell.Tie as tie
+
+load-at-requires : tie.Need-load-at-requires
+load-at-requires c κs = search needs
+
+enum-told : tie.Need-enum-told
+enum-told c = search needs
+
+enum-known-reading : tie.Need-enum-known-reading
+enum-known-reading c = search needs
+
+cast-copy-out : tie.Need-cast-copy-out
+cast-copy-out c = search needs
+
+copy-out-requires : tie.Need-copy-out-requires
+copy-out-requires c κs = count-fits _ _ (early-none _ _ (c .before .before .before .before .before .before .before .before .before .pre .0) .none-yet)
+
+kind-of-requires : tie.Need-kind-of-requires
+kind-of-requires c κs = search needs
+
+answer-requires : tie.Need-answer-requires
+answer-requires c κs = search needs
+
+returns : tie.Need-returns
+returns c =
+    let a = c .before .before .before .before .before .before .args in
+    let p = c .before .before .before .before .before .before .pre in
+    let d = c .before .before .load-at in
+    sym (read-unlent columns (a .registers) (a .cells .now) (a .address) (a .buffer .now) (p .0) (a .k) (p .1) (load-unlent columns (a .cells .now) (a .k) (d .result) (d .ensures) (c .enum-told .given .1)))
+
+same-length : tie.Need-same-length
+same-length c = search needs
+
+returns-2 : tie.Need-returns-2
+returns-2 c =
+    let a = c .before .before .before .before .before .before .before .before .before .before .before .before .before .before .args in
+    let p = c .before .before .before .before .before .before .before .before .before .before .before .before .before .before .pre in
+    let d = c .before .before .before .before .before .before .before .before .before .before .load-at in
+    let g = c .before .before .before .before .before .before .before .before .reading .given in
+    let h = load-lent columns (a .cells .now) (a .k) (d .result) (d .ensures) (g .0 .0) (g .1) in
+    simp (c .answer .ensures, c .before .kind-of .ensures, c .before .before .before .before .copy-out .ensures) (sym (read-done columns (a .registers) (a .cells .now) (a .address) (a .buffer .now) (p .0) (a .k) (d .result) (d .ensures) (g .0 .0) (p .1) h))
+
+pub read-cell-spec : {M : Type 1} → statement M
+read-cell-spec =
+    tie.close
+    (tie.spec
+    load-at-requires
+    enum-told
+    enum-known-reading
+    cast-copy-out
+    copy-out-requires
+    kind-of-requires
+    answer-requires
+    returns
+    same-length
+    returns-2)

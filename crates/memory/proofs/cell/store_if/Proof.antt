@@ -1,0 +1,21 @@
+use mathlib.Core.Path.{_∙_}
+use Rattle.ecc.specs.Lending.{storeAt}
+use borrow.Author.Needs.{needs}
+use Rattle.memory.proofs.cell.store_if.Statement.{statement}
+use Rattle.memory.proofs.cell.store_if.Tie as tie
+
+store-at-requires : tie.Need-store-at-requires
+store-at-requires c κs = search needs
+
+same-length : tie.Need-same-length
+same-length c = search needs
+
+returns : tie.Need-returns
+unfolding storeAt
+returns c = c .before .before .store-at .ensures .1 ∙ simp (c .before .before .before .before .before .before .before .pre, c .before .before .before .before .before .if1 .taken)
+
+returns-2 : tie.Need-returns-2
+returns-2 c = search needs
+
+pub store-if-spec : {M : Type 1} → statement M
+store-if-spec = tie.close (tie.spec store-at-requires same-length returns returns-2)

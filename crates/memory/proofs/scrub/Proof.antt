@@ -1,0 +1,63 @@
+use mathlib.Core.Path.{refl, sym, _∙_}
+use native.Mathlib.Omega.{arith}
+use Rattle.refusals.specs.Paper.{paper}
+use Rattle.banks.specs.Setup.{setupOf}
+use Rattle.banks.specs.Map.{cellOf}
+use Rattle.ecc.specs.Columns.{columns}
+use lib.ListN.{length}
+use Rattle.memory.proofs.AimLaws.{aimed}
+use Rattle.memory.proofs.CellCalls.{scrub-refused, scrub-missed}
+use borrow.Author.Needs.{needs}
+use Rattle.memory.proofs.scrub.Statement.{statement}
+use Rattle.memory.proofs.scrub.Tie as tie
+
+aim-requires : tie.Need-aim-requires
+aim-requires c κs = search needs
+
+enum-known-target : tie.Need-enum-known-target
+enum-known-target c = search needs
+
+enum-told : tie.Need-enum-told
+enum-told c = search needs
+
+answer-requires : tie.Need-answer-requires
+answer-requires c κs = search needs
+
+enum-known-target-2 : tie.Need-enum-known-target-2
+enum-known-target-2 c = search needs
+
+scrub-cell-requires : tie.Need-scrub-cell-requires
+scrub-cell-requires c κs = aimed (setupOf (c .before .before .before .before .before .before .args .registers)) (cellOf (setupOf (c .before .before .before .before .before .before .args .registers)) (c .before .before .before .before .before .before .args .address)) (c .before .before .target2 .given .1) refl (c .before .before .before .before .aim .ensures)
+
+returns : tie.Need-returns
+returns c =
+    let a = c .before .before .before .before .before .args in
+    let h = aimed (setupOf (c .before .before .before .before .before .args .registers)) (cellOf (setupOf (c .before .before .before .before .before .args .registers)) (c .before .before .before .before .before .args .address)) (c .before .target .given .1) refl (c .before .before .before .aim .ensures) in
+    sym (scrub-refused columns (a .registers) (a .cells .now) (a .address) (paper (c .before .target .given .0 .0)) h)
+
+returns-2 : tie.Need-returns-2
+returns-2 c =
+    let a = c .before .before .before .before .before .args in
+    let h = aimed (setupOf (c .before .before .before .before .before .args .registers)) (cellOf (setupOf (c .before .before .before .before .before .args .registers)) (c .before .before .before .before .before .args .address)) (c .before .enum-told .given .1) refl (c .before .before .before .aim .ensures) in
+    simp (c .answer .ensures) (sym (scrub-missed columns (a .registers) (a .cells .now) (a .address) (h .0) (h .1)))
+
+same-length : tie.Need-same-length
+same-length c = search needs
+
+returns-3 : tie.Need-returns-3
+returns-3 c = search needs
+
+pub scrub-spec : {M : Type 1} → statement M
+scrub-spec =
+    tie.close
+    (tie.spec
+    aim-requires
+    enum-known-target
+    enum-told
+    answer-requires
+    enum-known-target-2
+    scrub-cell-requires
+    returns
+    returns-2
+    same-length
+    returns-3)

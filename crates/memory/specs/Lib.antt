@@ -1,0 +1,8 @@
+pub mod Access
+pub mod Spans
+pub mod Errors
+pub mod Cells
+pub mod Calls
+pub mod Flat
+pub mod Comparison
+pub mod Aim
