@@ -3,7 +3,7 @@ ghost use mathlib.Core.Path.{_≡_};
 ghost use Prim.Native.Nat.{_^_, _<_};
 ghost use mathlib.Core.Bool.{true};
 ghost use lib.ListN.{length, take};
-ghost use Rattle.ecc.specs.Code.{checkOf, readingOf, maskOf, flipBit};
+ghost use Rattle.ecc.specs.Code.{taken, checkOf, readingOf, maskOf, flipBit};
 ghost use Rattle.ecc.specs.Cell.{encode, rightBy, loadOf};
 ghost use Rattle.ecc.specs.Lending.{cellAt, putCell, isLent, loadAt, changeAt, storeAt, flipAt};
 
@@ -40,18 +40,23 @@ pub enum CellChange {
     Changed,
 }
 
-// The exclusive-or of the columns of the data bits that are one. The column is read before the test, so that the compiler
-// makes no branch of it.
+// The column where the bit is one, else 0: a product, so that no branch is made of it.
+fn column_if(bit: u8, column: u8) -> u8
+    requires { ⌜ bit < 2 ⌝ }
+    ensures { λ r. ⌜ r ≡ taken bit column ⌝ }
+{
+    bit * column
+}
+
+// The exclusive-or of the columns of the data bits that are one.
 pub fn check_byte(cols: &[u8; 64], bytes: [u8; 8]) -> u8
     ensures { λ r. ⌜ r ≡ checkOf (now (cols .entry)) bytes ⌝ }
 {
     let mut acc: u8 = 0;
     let mut i: usize = 0;
     while i < 64 {
-        let col = cols[i];
-        if (bytes[i / 8] >> (7 - i % 8)) % 2 == 1 {
-            acc = acc ^ col;
-        }
+        let bit = (bytes[i / 8] >> (7 - i % 8)) % 2;
+        acc = acc ^ column_if(bit, cols[i]);
         i += 1;
     }
     acc
