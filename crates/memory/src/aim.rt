@@ -1,6 +1,5 @@
 // Where an access goes, and why one is refused before its cell is looked at.
 ghost use mathlib.Core.Path.{_≡_};
-ghost use Prim.Native.Nat.{_≤_};
 ghost use Rattle.refusals.specs.Paper.{paperVerdict};
 ghost use Rattle.banks.specs.Setup.{setupOf};
 ghost use Rattle.banks.specs.Map.{cellOf};
@@ -17,7 +16,7 @@ pub enum Target {
     Cell(usize),
 }
 
-pub fn judge_count(address: u32, count: usize) -> Verdict
+pub(crate) fn judge_count(address: u32, count: usize) -> Verdict
     ensures { λ v. ⌜ paperVerdict v ≡ byCount address count ⌝ }
 {
     if (count == 0) | (8 < count) {
@@ -29,7 +28,7 @@ pub fn judge_count(address: u32, count: usize) -> Verdict
     Verdict::Accepted
 }
 
-pub fn judge_bit(bit: u8) -> Verdict
+pub(crate) fn judge_bit(bit: u8) -> Verdict
     ensures { λ v. ⌜ paperVerdict v ≡ byBit bit ⌝ }
 {
     if 71 < bit {
@@ -48,7 +47,7 @@ fn target_unless(v: Verdict, t: Target) -> Target
 }
 
 // The cell of an address, after refusal 5 and what its arguments got.
-pub fn aim(r: Registers, address: u32, v: Verdict) -> Target
+pub(crate) fn aim(r: Registers, address: u32, v: Verdict) -> Target
     ensures { λ t. ⌜ Aims t (early (setupOf r) (paperVerdict v)) (cellOf (setupOf r) address) ⌝ }
 {
     let place = banks::map(r, address);

@@ -5,7 +5,7 @@ ghost use lib.ListN.{length, take, drop};
 ghost use Rattle.memory.specs.Cells.{merge};
 
 // The buffer filled from the doubleword's byte `offset` on.
-pub fn copy_out(doubleword: [u8; 8], offset: usize, buffer: &mut [u8])
+pub(crate) fn copy_out(doubleword: [u8; 8], offset: usize, buffer: &mut [u8])
     requires { ⌜ offset + length (now buffer) ≤ 8 ⌝ }
     ensures { λ _. ⌜ now (buffer .exit) ≡ take (length (now (buffer .entry))) (drop offset doubleword) ⌝ }
 {
@@ -17,7 +17,7 @@ pub fn copy_out(doubleword: [u8; 8], offset: usize, buffer: &mut [u8])
 }
 
 // The doubleword with the lent bytes put in from byte `offset` on.
-pub fn merged(doubleword: [u8; 8], offset: usize, bytes: &[u8]) -> [u8; 8]
+pub(crate) fn merged(doubleword: [u8; 8], offset: usize, bytes: &[u8]) -> [u8; 8]
     requires { ⌜ offset + length (now bytes) ≤ 8 ⌝ }
     ensures { λ x. ⌜ x ≡ merge offset (now (bytes .entry)) doubleword ⌝ }
 {

@@ -11,7 +11,6 @@ ghost use Rattle.ecc.specs.Columns.{columns};
 ghost use Rattle.ecc.specs.Cell.{encode};
 ghost use Rattle.ecc.specs.Lending.{isLent, putCell};
 ghost use Rattle.memory.specs.Spans.{byCount, byBit};
-ghost use Rattle.memory.specs.Errors.{reported};
 ghost use Rattle.memory.specs.Cells.{answerOf};
 ghost use Rattle.memory.specs.Aim.{early, isRight, isCorrected, answered};
 ghost use Rattle.memory.specs.Calls.{leaves, readCall, writeCall, flipCall, scrubCall};
@@ -59,7 +58,7 @@ fn is_corrected(reading: Reading) -> bool
 }
 
 // The answer of an access, with its effect on the error registers.
-pub fn answer(registers: Registers, kind: Kind, address: u32) -> Called
+pub(crate) fn answer(registers: Registers, kind: Kind, address: u32) -> Called
     ensures { λ x. ⌜ x ≡ answered registers kind address ⌝ }
 {
     Called {
@@ -77,7 +76,7 @@ fn store_if(wanted: bool, cells: &mut [u8], k: usize, doubleword: [u8; 8])
     }
 }
 
-pub fn read_cell(
+pub(crate) fn read_cell(
     registers: Registers,
     cells: &[u8],
     k: usize,
@@ -102,7 +101,7 @@ pub fn read_cell(
     }
 }
 
-pub fn write_whole(
+pub(crate) fn write_whole(
     registers: Registers,
     cells: &mut [u8],
     k: usize,
@@ -126,7 +125,7 @@ pub fn write_whole(
 }
 
 // A short write: the cell is put right, merged with the bytes and stored, unless it is uncorrectable.
-pub fn write_part(
+pub(crate) fn write_part(
     registers: Registers,
     cells: &mut [u8],
     k: usize,
@@ -152,7 +151,13 @@ pub fn write_part(
     }
 }
 
-pub fn flip_cell(registers: Registers, cells: &mut [u8], k: usize, address: u32, bit: u8) -> Called
+pub(crate) fn flip_cell(
+    registers: Registers,
+    cells: &mut [u8],
+    k: usize,
+    address: u32,
+    bit: u8,
+) -> Called
     requires { ⌜ (early (setupOf registers) (byBit bit) ≡ none) × (cellOf (setupOf registers) address ≡ some k) ⌝ }
     ensures { λ x. ⌜ leaves x (now (cells .exit)) [] ≡ flipCall columns registers (now (cells .entry)) address bit ⌝ }
 {
@@ -169,7 +174,7 @@ pub fn flip_cell(registers: Registers, cells: &mut [u8], k: usize, address: u32,
     }
 }
 
-pub fn scrub_cell(registers: Registers, cells: &mut [u8], k: usize, address: u32) -> Called
+pub(crate) fn scrub_cell(registers: Registers, cells: &mut [u8], k: usize, address: u32) -> Called
     requires { ⌜ (early (setupOf registers) none ≡ none) × (cellOf (setupOf registers) address ≡ some k) ⌝ }
     ensures { λ x. ⌜ leaves x (now (cells .exit)) [] ≡ scrubCall columns registers (now (cells .entry)) address ⌝ }
 {

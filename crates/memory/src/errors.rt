@@ -70,7 +70,7 @@ fn count(r: Registers, address: u32) -> Registers
     s
 }
 
-pub fn report(r: Registers, kind: Kind, address: u32) -> Registers
+pub(crate) fn report(r: Registers, kind: Kind, address: u32) -> Registers
     ensures { λ s. ⌜ s ≡ reported kind address r ⌝ }
 {
     match kind {
