@@ -1,42 +1,33 @@
 -- What each call comes to, by the target of its access and what the cell gives: for the proofs of the calls' code.
 -- Assumes nothing.
-use Prim.Native.Nat.{ℕ, _+_, _%_, _≤_, _<_}
-use mathlib.Core.Path.{_≡_, refl, sym, ap, _∙_}
-use mathlib.Core.Bool.{Bool, true, false, not, cond}
-use mathlib.Core.Option.{Option, none, some}
-use mathlib.Core.List.{List, [], _∷_, _++_, append-nil}
-use native.Mathlib.Omega.{arith}
-use lib.ListN.{length, take, drop, replicate}
-use borrow.Author.Tests.{eq-eqb, ne-eqb}
+use Prim.Native.Nat.{ℕ}
+use mathlib.Core.Path.{_≡_, ap, _∙_}
+use mathlib.Core.Bool.{true, false}
+use mathlib.Core.Option.{none, some}
+use mathlib.Core.List.{List, [], _∷_}
 use Rattle.ranges.proofs.RangeLaws.{byCases}
-use Rattle.refusals.specs.Paper.{Declined, refuse, _else_, refused, given}
+use Rattle.refusals.specs.Paper.{_else_, refused, given}
 use Rattle.registers.specs.declared.Registers.{Registers}
 use Rattle.banks.specs.Setup.{setupOf}
 use Rattle.banks.specs.Judge.{ready}
-use Rattle.banks.specs.Map.{inSpan, cellOf}
+use Rattle.banks.specs.Map.{cellOf}
 use Rattle.banks.proofs.CommonLaws.{never}
-use Rattle.banks.proofs.MapLaws.{map-laws}
 use Rattle.ecc.specs.declared.Reading.{Reading}
 use Rattle.ecc.specs.declared.Reading.the-variants as reading
-use Rattle.ecc.specs.declared.Loaded.{Loaded}
 use Rattle.ecc.specs.declared.LoadedCell.{LoadedCell}
-use Rattle.ecc.specs.declared.CellReading.{CellReading}
 use Rattle.ecc.specs.declared.CellReading.the-variants as cell
 use Rattle.ecc.specs.declared.CellChange.{CellChange}
 use Rattle.ecc.specs.declared.CellChange.the-variants as change
-use Rattle.ecc.specs.Code.{flipBit}
-use Rattle.ecc.specs.Cell.{encode, loadOf}
-use Rattle.ecc.specs.Lending.{cellAt, putCell, isLent, lentReading, notLent, loadAt, changeAt}
-use Rattle.memory.specs.declared.Kind.{Kind}
-use Rattle.memory.specs.declared.Kind.the-variants.{Stored, NoBank, Flipped}
-use Rattle.memory.specs.Access.{Access, read, write, flip, scrub, addressOf}
-use Rattle.memory.specs.Spans.{byArguments, byCount, byBit, bySpans, turnedAway, missed}
+use Rattle.ecc.specs.Cell.{loadOf}
+use Rattle.ecc.specs.Lending.{cellAt, isLent, lentReading, notLent, loadAt, changeAt}
+use Rattle.memory.specs.declared.Kind.the-variants.{NoBank}
+use Rattle.memory.specs.Access.{Access, addressOf}
+use Rattle.memory.specs.Spans.{byArguments, bySpans, turnedAway, missed}
 use Rattle.memory.specs.Errors.{reported}
-use Rattle.memory.specs.Cells.{answerOf, merge, readCell, unlessLost, mergeCell, writeCell, ifCorrected, scrubCell, onCell}
-use Rattle.memory.specs.Calls.{State, spansOf, unlentAt, refusal, putAt, Effect, called, readCall, writeCall, flipCall, scrubCall}
-use Rattle.memory.specs.Aim.{early, isRight, isCorrected}
-use Rattle.memory.proofs.CallLaws.{else-none, refusal-unready, refusal-ready, called-refused, called-missed, doneAt, called-at}
-use Rattle.memory.proofs.AimLaws.{Early, early-none, count-fits}
+use Rattle.memory.specs.Calls.{spansOf, unlentAt, refusal, Effect, called}
+use Rattle.memory.specs.Aim.{early}
+use Rattle.memory.proofs.CallLaws.{refusal-unready, refusal-ready, called-refused, called-missed, doneAt, called-at}
+use Rattle.memory.proofs.AimLaws.{early-none}
 
 -- a refused call leaves everything as it was
 abbrev pub unchanged : Registers → List ℕ → List ℕ → List ℕ → Effect

@@ -1,25 +1,23 @@
 -- What a target tells of a call's refusal, and what the call then comes to: for the proofs of the calls' code.
 -- Assumes nothing.
 use Prim.Native.Nat.{ℕ, _+_, _%_, _≤_}
-use mathlib.Core.Path.{_≡_, refl, sym, ap, subst, _∙_}
-use mathlib.Core.Bool.{Bool, true, false, not, _||_}
+use mathlib.Core.Path.{_≡_, subst}
+use mathlib.Core.Bool.{true, _||_}
 use mathlib.Core.Option.{Option, none, some}
-use mathlib.Core.List.{List, [], _∷_}
+use mathlib.Core.List.{[], _∷_}
 use lib.Dec.{ltb, eqb}
 use borrow.Author.Tests.{ltb-false}
 use Rattle.ranges.proofs.RangeLaws.{byCases}
-use Rattle.refusals.specs.Paper.{paper, Declined, refuse, _else_, refused, given, paperVerdict}
+use Rattle.refusals.specs.Paper.{paper, Declined, refused, given, paperVerdict}
 use Rattle.refusals.specs.declared.Refusal.{Refusal}
 use Rattle.refusals.specs.declared.Verdict.{Verdict}
 use Rattle.refusals.specs.declared.Verdict.the-variants as verdict
-use Rattle.registers.specs.declared.Registers.{Registers}
 use Rattle.banks.specs.declared.setup.Setup.{Setup}
 use Rattle.banks.specs.declared.Place.{Place}
-use Rattle.banks.specs.Setup.{setupOf}
 use Rattle.banks.specs.Judge.{ready}
-use Rattle.banks.specs.Map.{cellOf, cellNumber, mapped}
+use Rattle.banks.specs.Map.{cellOf, mapped}
 use Rattle.banks.proofs.CommonLaws.{never}
-use Rattle.banks.proofs.MappedLaws.{Unready, mapped-refused, Mapped, mapped-given}
+use Rattle.banks.proofs.MappedLaws.{mapped-refused, mapped-given}
 use Rattle.memory.specs.declared.aim.Target.{Target}
 use Rattle.memory.specs.declared.aim.Target.the-variants.{Refused, Nowhere, Cell}
 use Rattle.memory.specs.Spans.{byCount}

@@ -1,17 +1,17 @@
 -- What a read, a write, a flip and a scrub come to at a lent cell. Assumes nothing.
 use Prim.Native.Nat.{ℕ, zero, suc, _+_, _%_, _≤_, _<_}
-use mathlib.Core.Path.{_≡_, refl, sym, ap, _∙_}
-use mathlib.Core.Bool.{Bool, true, false, not, cond}
-use mathlib.Core.Option.{Option, none, some}
+use mathlib.Core.Path.{_≡_, refl, ap, _∙_}
+use mathlib.Core.Bool.{true, false, cond}
+use mathlib.Core.Option.{none, some}
 use mathlib.Core.List.{List, [], _∷_, _++_, append-nil}
 use native.Mathlib.Nat.{zero-add}
 use native.Mathlib.Omega.{arith}
 use lib.ListN.{length, take, drop, replicate, drop-of-length-le}
 use borrow.Author.Tests.{eq-eqb, ne-eqb}
-use Rattle.refusals.specs.Paper.{Declined, given}
+use Rattle.refusals.specs.Paper.{given}
 use Rattle.registers.specs.declared.Registers.{Registers}
 use Rattle.banks.specs.Setup.{setupOf}
-use Rattle.banks.specs.Map.{inSpan, cellOf}
+use Rattle.banks.specs.Map.{cellOf}
 use Rattle.banks.proofs.MapLaws.{map-laws}
 use Rattle.ecc.specs.declared.Reading.{Reading}
 use Rattle.ecc.specs.declared.Reading.the-variants as reading
@@ -20,15 +20,15 @@ use Rattle.ecc.specs.Code.{flipBit}
 use Rattle.ecc.specs.Cell.{encode, loadOf}
 use Rattle.ecc.specs.Lending.{cellAt, putCell, isLent, loadAt}
 use Rattle.memory.specs.declared.Kind.the-variants.{Stored, NoBank, Flipped}
-use Rattle.memory.specs.Access.{Access, read, write, flip, scrub}
+use Rattle.memory.specs.Access.{read, write, flip, scrub}
 use Rattle.memory.specs.Spans.{byArguments, byCount, byBit, bySpans, missed}
 use Rattle.memory.specs.Errors.{reported}
 use Rattle.memory.specs.Cells.{answerOf, merge, readCell, unlessLost, mergeCell, writeCell, ifCorrected, scrubCell, onCell}
-use Rattle.memory.specs.Calls.{spansOf, putAt, Effect, readCall, writeCall, flipCall, scrubCall}
+use Rattle.memory.specs.Calls.{spansOf, putAt, readCall, writeCall, flipCall, scrubCall}
 use Rattle.memory.specs.Aim.{early, isRight, isCorrected}
 use Rattle.memory.proofs.AimLaws.{early-none}
 use Rattle.memory.proofs.AccessLaws.{unchanged, Here, early-refused, refusal-late, late-missed, late-unlent, late-done}
-use Rattle.memory.proofs.CallLaws.{doneAt, called-refused}
+use Rattle.memory.proofs.CallLaws.{called-refused}
 
 -- ---- what is stored, as the code decides it
 pub put-right : (rd : Reading) (cell cells : List ℕ) (k : ℕ) → putAt (unlessLost rd cell) cells k ≡ cond (isRight rd) (putCell cells k cell) cells

@@ -1,10 +1,8 @@
-use mathlib.Core.Path.{refl, sym, _∙_}
-use native.Mathlib.Omega.{arith}
+use mathlib.Core.Path.{sym}
 use Rattle.refusals.specs.Paper.{paper}
 use Rattle.banks.specs.Setup.{setupOf}
 use Rattle.banks.specs.Map.{cellOf}
 use Rattle.ecc.specs.Columns.{columns}
-use lib.ListN.{length}
 use Rattle.memory.proofs.AimLaws.{aimed}
 use Rattle.memory.proofs.CellCalls.{flip-refused, flip-missed}
 use borrow.Author.Needs.{needs}

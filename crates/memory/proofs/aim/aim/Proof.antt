@@ -1,4 +1,4 @@
-use mathlib.Core.Path.{_≡_, sym, ap, _∙_}
+use mathlib.Core.Path.{sym, ap, _∙_}
 use Rattle.refusals.specs.Paper.{paperVerdict}
 use Rattle.banks.specs.Setup.{setupOf}
 use Rattle.banks.specs.Map.{paperMapping}

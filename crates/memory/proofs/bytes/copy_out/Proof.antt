@@ -4,12 +4,12 @@ use mathlib.Core.Path.{refl}
 use mathlib.Core.List.{append-nil}
 use lib.ListN.{length-set, length-drop}
 use lib.Seq.{getD-drop, drop-length}
-use Prim.Native.Nat.{_+_, _-_, _≤_}
-use mathlib.Core.Path.{_≡_, sym, _∙_}
+use Prim.Native.Nat.{_-_, _≤_}
+use mathlib.Core.Path.{_≡_, _∙_}
 use native.Mathlib.Omega.{arith}
 use native.Mathlib.Numerals.{add-one}
 use lib.ListN.{length, drop}
-use lib.Seq.{paste, paste-zero, paste-suc, length-paste}
+use lib.Seq.{paste, paste-zero, paste-suc}
 use Rattle.memory.proofs.bytes.copy_out.Statement.{statement}
 use Rattle.memory.proofs.bytes.copy_out.Tie as tie
 

@@ -1,12 +1,10 @@
 use borrow.Author.Needs.{needs}
-use lib.ListN.{length-set}
-use mathlib.Core.List.{append-nil}
-use Prim.Native.Nat.{_+_, _-_, _≤_}
-use mathlib.Core.Path.{_≡_, sym, _∙_}
+use Prim.Native.Nat.{_-_, _≤_}
+use mathlib.Core.Path.{_≡_, _∙_}
 use native.Mathlib.Omega.{arith}
 use native.Mathlib.Numerals.{add-one}
 use lib.ListN.{length}
-use lib.Seq.{paste, paste-zero, paste-suc, length-paste, take-length}
+use lib.Seq.{paste, paste-zero, paste-suc, take-length}
 use Rattle.memory.specs.Cells.{merge}
 use Rattle.memory.proofs.bytes.merged.Statement.{statement}
 use Rattle.memory.proofs.bytes.merged.Tie as tie

@@ -1,4 +1,3 @@
-use Prim.Native.Nat.{_^_}
 use native.Mathlib.Omega.{arith}
 use Rattle.memory.specs.Errors.{detected}
 use Rattle.banks.proofs.Shifts.{one-shl}
