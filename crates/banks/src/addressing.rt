@@ -13,7 +13,7 @@ use crate::setup::nth;
 use refusals::Refusal;
 
 // 2 to the power k.
-pub fn power(k: u32) -> u32
+pub(crate) fn power(k: u32) -> u32
     requires { ⌜ k < 32 ⌝ }
     ensures { λ r. ⌜ r ≡ 2 ^ k ⌝ }
 {
@@ -26,7 +26,7 @@ fn holds_megabyte(b: Bank, mb: u32) -> bool
     b.enabled & ((b.start <= mb) & (mb <= b.last))
 }
 
-pub fn bank_at(s: Setup, mb: u32) -> u8
+pub(crate) fn bank_at(s: Setup, mb: u32) -> u8
     requires { ⌜ Sound s ⌝ }
     ensures { λ n. ⌜ n ≡ bankAt s mb ⌝ }
 {
@@ -38,7 +38,7 @@ pub fn bank_at(s: Setup, mb: u32) -> u8
     8
 }
 
-pub fn cell_count(b: Bank) -> u32
+pub(crate) fn cell_count(b: Bank) -> u32
     requires { ⌜ Bounded b ⌝ }
     ensures { λ k. ⌜ k ≡ cells b ⌝ }
     ensures bound { λ k. ⌜ (0 < k) × (k ≤ 2 ^ 24) ⌝ }
@@ -67,7 +67,7 @@ fn cells_below(s: Setup, n: u8) -> u32
 }
 
 // The number of an address's doubleword within its bank: of the address itself, not of its distance from the start.
-pub fn word(b: Bank, address: u32) -> u32
+pub(crate) fn word(b: Bank, address: u32) -> u32
     requires { ⌜ Bounded b ⌝ }
     ensures { λ w. ⌜ w ≡ wordOf b address ⌝ }
     ensures bound { λ w. ⌜ w < 2 ^ 24 ⌝ }
@@ -90,7 +90,7 @@ fn place_in(s: Setup, n: u8, address: u32) -> Place
     }
 }
 
-pub fn map_address(s: Setup, address: u32) -> Mapping
+pub(crate) fn map_address(s: Setup, address: u32) -> Mapping
     requires { ⌜ Sound s ⌝ }
     ensures { λ m. ⌜ paperMapping m ≡ mapped s address ⌝ }
 {

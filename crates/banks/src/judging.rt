@@ -112,7 +112,7 @@ fn fault(b: Bank, n: u8) -> Refusal
     }
 }
 
-pub fn verdict(s: Setup) -> Verdict
+pub(crate) fn verdict(s: Setup) -> Verdict
     requires { ⌜ Sound s ⌝ }
     ensures { λ v. ⌜ paperVerdict v ≡ judged s ⌝ }
 {
@@ -140,7 +140,7 @@ fn is_accepted(v: Verdict) -> bool
 }
 
 // Memory is on, and the set-up may be.
-pub fn is_ready(s: Setup) -> bool
+pub(crate) fn is_ready(s: Setup) -> bool
     requires { ⌜ Sound s ⌝ }
     ensures { λ t. ⌜ t ≡ ready s ⌝ }
 {

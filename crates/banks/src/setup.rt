@@ -45,7 +45,7 @@ fn ten_bits(low: u8, extended: u8) -> u32
 }
 
 // The span of a bank in megabytes; none where its start is above its end.
-pub fn length(start: u32, last: u32) -> u32
+pub(crate) fn length(start: u32, last: u32) -> u32
     requires { ⌜ (start < 1024) × (last < 1024) ⌝ }
     ensures { λ r. ⌜ r ≡ megabytes start last ⌝ }
     ensures bound { λ r. ⌜ r ≤ 1024 ⌝ }
@@ -54,7 +54,7 @@ pub fn length(start: u32, last: u32) -> u32
 }
 
 // So many megabytes have room in these rows and columns.
-pub fn has_room(rows: u32, columns: u32, length: u32) -> bool
+pub(crate) fn has_room(rows: u32, columns: u32, length: u32) -> bool
     requires { ⌜ (rows + columns < 32) × (length ≤ 1024) ⌝ }
     ensures { λ r. ⌜ r ≡ fits rows length columns ⌝ }
 {
@@ -115,13 +115,13 @@ fn bank_of(r: Registers, n: u8) -> Bank
     }
 }
 
-pub fn memory_on(r: Registers) -> bool
+pub(crate) fn memory_on(r: Registers) -> bool
     ensures { λ t. ⌜ t ≡ setupOf r .on ⌝ }
 {
     bit(r.byte(registers::MEMORY), 3)
 }
 
-pub fn setup_of(r: Registers) -> Setup
+pub(crate) fn setup_of(r: Registers) -> Setup
     ensures { λ s. ⌜ s ≡ setupOf r ⌝ }
     ensures bound { λ s. ⌜ Sound s ⌝ }
 {
@@ -140,7 +140,7 @@ pub fn setup_of(r: Registers) -> Setup
     }
 }
 
-pub fn nth(s: Setup, n: u8) -> Bank
+pub(crate) fn nth(s: Setup, n: u8) -> Bank
     requires { ⌜ Sound s × (n < 8) ⌝ }
     ensures { λ b. ⌜ b ≡ bank s n ⌝ }
     ensures bound { λ b. ⌜ Bounded b ⌝ }
