@@ -3,7 +3,7 @@
 use Prim.Native.Nat.{ℕ, _+_, _%_, _≤_}
 use mathlib.Core.Path.{_≡_, subst}
 use mathlib.Core.Bool.{true, _||_}
-use mathlib.Core.Option.{Option, none, some}
+use mathlib.Core.Option.{none, some}
 use mathlib.Core.List.{[], _∷_}
 use lib.Dec.{ltb, eqb}
 use borrow.Author.Tests.{ltb-false}
@@ -12,8 +12,10 @@ use Rattle.refusals.specs.Paper.{paper, Declined, refused, given, paperVerdict}
 use Rattle.refusals.specs.declared.Refusal.{Refusal}
 use Rattle.refusals.specs.declared.Verdict.{Verdict}
 use Rattle.refusals.specs.declared.Verdict.the-variants as verdict
+use Rattle.registers.specs.declared.Registers.{Registers}
 use Rattle.banks.specs.declared.setup.Setup.{Setup}
 use Rattle.banks.specs.declared.Place.{Place}
+use Rattle.banks.specs.Setup.{setupOf}
 use Rattle.banks.specs.Judge.{ready}
 use Rattle.banks.specs.Map.{cellOf, mapped}
 use Rattle.banks.proofs.CommonLaws.{never}
@@ -39,8 +41,11 @@ aims-cell s a verdict.Accepted p h = let m = mapped-given s a (some p) h in (rw 
 aims-cell s a (verdict.Refused x) p h = let m = mapped-given s a (some p) h in rw (m .on)
 
 -- the target as it was matched, and the early refusal as it was found
-pub aimed : {t u : Target} {d e : Declined} (s : Setup) (o : Option ℕ) → t ≡ u → d ≡ e → Aims t (early s d) o → Aims u (early s e) o
-aimed {t} {u} {d} {e} s o p q h = subst (λ (x : Target). Aims x (early s e) o) p (subst (λ (y : Declined). Aims t (early s y) o) q h)
+pub aimed : {t u : Target} {d e : Declined} (r : Registers) (a : ℕ) → t ≡ u → d ≡ e
+    → Aims t (early (setupOf r) d) (cellOf (setupOf r) a) → Aims u (early (setupOf r) e) (cellOf (setupOf r) a)
+aimed {t} {u} {d} {e} r a p q h =
+    let s = setupOf r in
+    subst (λ (x : Target). Aims x (early s e) (cellOf s a)) p (subst (λ (y : Declined). Aims t (early s y) (cellOf s a)) q h)
 
 -- ---- no early refusal
 pub record Early (s : Setup) (d : Declined) : Type 0 where

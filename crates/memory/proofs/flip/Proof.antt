@@ -1,7 +1,5 @@
 use mathlib.Core.Path.{sym}
 use Rattle.refusals.specs.Paper.{paper}
-use Rattle.banks.specs.Setup.{setupOf}
-use Rattle.banks.specs.Map.{cellOf}
 use Rattle.ecc.specs.Columns.{columns}
 use Rattle.memory.proofs.AimLaws.{aimed}
 use Rattle.memory.proofs.CellCalls.{flip-refused, flip-missed}
@@ -25,18 +23,20 @@ enum-known-target-2 : tie.Need-enum-known-target-2
 enum-known-target-2 c = search needs
 
 flip-cell-requires : tie.Need-flip-cell-requires
-flip-cell-requires c κs = aimed (setupOf (c .before .before .before .before .before .before .before .args .registers)) (cellOf (setupOf (c .before .before .before .before .before .before .before .args .registers)) (c .before .before .before .before .before .before .before .args .address)) (c .before .before .target2 .given .1) (c .before .before .before .before .before .judge-bit .ensures) (c .before .before .before .before .aim .ensures)
+flip-cell-requires c κs =
+    let a = c .before .before .before .before .before .before .before .args in
+    aimed (a .registers) (a .address) (c .before .before .target2 .given .1) (c .before .before .before .before .before .judge-bit .ensures) (c .before .before .before .before .aim .ensures)
 
 returns : tie.Need-returns
 returns c =
     let a = c .before .before .before .before .before .before .args in
-    let h = aimed (setupOf (c .before .before .before .before .before .before .args .registers)) (cellOf (setupOf (c .before .before .before .before .before .before .args .registers)) (c .before .before .before .before .before .before .args .address)) (c .before .target .given .1) (c .before .before .before .before .judge-bit .ensures) (c .before .before .before .aim .ensures) in
+    let h = aimed (a .registers) (a .address) (c .before .target .given .1) (c .before .before .before .before .judge-bit .ensures) (c .before .before .before .aim .ensures) in
     sym (flip-refused columns (a .registers) (a .cells .now) (a .address) (a .bit) (paper (c .before .target .given .0 .0)) h)
 
 returns-2 : tie.Need-returns-2
 returns-2 c =
     let a = c .before .before .before .before .before .args in
-    let h = aimed (setupOf (c .before .before .before .before .before .args .registers)) (cellOf (setupOf (c .before .before .before .before .before .args .registers)) (c .before .before .before .before .before .args .address)) (c .enum-told .given .1) (c .before .before .before .judge-bit .ensures) (c .before .before .aim .ensures) in
+    let h = aimed (a .registers) (a .address) (c .enum-told .given .1) (c .before .before .before .judge-bit .ensures) (c .before .before .aim .ensures) in
     sym (flip-missed columns (a .registers) (a .cells .now) (a .address) (a .bit) (h .0) (h .1))
 
 same-length : tie.Need-same-length

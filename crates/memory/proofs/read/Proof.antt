@@ -1,8 +1,6 @@
 use mathlib.Core.Path.{sym, _∙_}
 use native.Mathlib.Omega.{arith}
 use Rattle.refusals.specs.Paper.{paper}
-use Rattle.banks.specs.Setup.{setupOf}
-use Rattle.banks.specs.Map.{cellOf}
 use Rattle.ecc.specs.Columns.{columns}
 use lib.ListN.{length}
 use Rattle.memory.proofs.AimLaws.{aimed, early-none, count-fits}
@@ -25,8 +23,9 @@ enum-told c = search needs
 
 copy-out-requires : tie.Need-copy-out-requires
 copy-out-requires c κs =
-    let h = aimed (setupOf (c .before .before .before .before .before .before .before .args .registers)) (cellOf (setupOf (c .before .before .before .before .before .before .before .args .registers)) (c .before .before .before .before .before .before .before .args .address)) (c .before .enum-told .given .1) (c .before .before .before .before .judge-count .ensures) (c .before .before .before .aim .ensures) in
-    omega (arith, count-fits (c .before .before .before .before .before .before .before .args .address) (length (c .before .before .before .before .before .before .before .args .buffer .now)) (early-none _ _ (h .0) .none-yet))
+    let a = c .before .before .before .before .before .before .before .args in
+    let h = aimed (a .registers) (a .address) (c .before .enum-told .given .1) (c .before .before .before .before .judge-count .ensures) (c .before .before .before .aim .ensures) in
+    omega (arith, count-fits (a .address) (length (a .buffer .now)) (early-none _ _ (h .0) .none-yet))
 
 answer-requires : tie.Need-answer-requires
 answer-requires c κs = search needs
@@ -35,12 +34,14 @@ enum-known-target-2 : tie.Need-enum-known-target-2
 enum-known-target-2 c = search needs
 
 read-cell-requires : tie.Need-read-cell-requires
-read-cell-requires c κs = aimed (setupOf (c .before .before .before .before .before .before .before .before .args .registers)) (cellOf (setupOf (c .before .before .before .before .before .before .before .before .args .registers)) (c .before .before .before .before .before .before .before .before .args .address)) (c .before .before .target2 .given .1) (c .before .before .before .before .before .judge-count .ensures) (c .before .before .before .before .aim .ensures)
+read-cell-requires c κs =
+    let a = c .before .before .before .before .before .before .before .before .args in
+    aimed (a .registers) (a .address) (c .before .before .target2 .given .1) (c .before .before .before .before .before .judge-count .ensures) (c .before .before .before .before .aim .ensures)
 
 returns : tie.Need-returns
 returns c =
     let a = c .before .before .before .before .before .before .before .args in
-    let h = aimed (setupOf (c .before .before .before .before .before .before .before .args .registers)) (cellOf (setupOf (c .before .before .before .before .before .before .before .args .registers)) (c .before .before .before .before .before .before .before .args .address)) (c .before .target .given .1) (c .before .before .before .before .judge-count .ensures) (c .before .before .before .aim .ensures) in
+    let h = aimed (a .registers) (a .address) (c .before .target .given .1) (c .before .before .before .before .judge-count .ensures) (c .before .before .before .aim .ensures) in
     sym (read-refused columns (a .registers) (a .cells .now) (a .address) (a .buffer .now) (paper (c .before .target .given .0 .0)) h)
 
 same-length : tie.Need-same-length
@@ -49,7 +50,7 @@ same-length c = search needs
 returns-2 : tie.Need-returns-2
 returns-2 c =
     let a = c .before .before .before .before .before .before .before .before .before .before .before .args in
-    let h = aimed (setupOf (c .before .before .before .before .before .before .before .before .before .before .before .args .registers)) (cellOf (setupOf (c .before .before .before .before .before .before .before .before .before .before .before .args .registers)) (c .before .before .before .before .before .before .before .before .before .before .before .args .address)) (c .before .before .before .before .before .enum-told .given .1) (c .before .before .before .before .before .before .before .before .judge-count .ensures) (c .before .before .before .before .before .before .before .aim .ensures) in
+    let h = aimed (a .registers) (a .address) (c .before .before .before .before .before .enum-told .given .1) (c .before .before .before .before .before .before .before .before .judge-count .ensures) (c .before .before .before .before .before .before .before .aim .ensures) in
     let n = length (a .buffer .now) in
     let e = c .before .before .before .copy-out .ensures ∙ take-same n 8 255 (omega (arith, count-fits (a .address) n (early-none _ _ (h .0) .none-yet))) in
     simp (c .answer .ensures, e) (sym (read-missed columns (a .registers) (a .cells .now) (a .address) (a .buffer .now) (h .0) (h .1)))

@@ -1,8 +1,6 @@
 use mathlib.Core.Path.{sym}
 use native.Mathlib.Omega.{arith}
 use Rattle.refusals.specs.Paper.{paper}
-use Rattle.banks.specs.Setup.{setupOf}
-use Rattle.banks.specs.Map.{cellOf}
 use Rattle.ecc.specs.Columns.{columns}
 use lib.ListN.{length}
 use Rattle.memory.proofs.AimLaws.{aimed, early-none, count-fits}
@@ -31,7 +29,8 @@ enum-known-target-2 c = search needs
 
 write-whole-requires : tie.Need-write-whole-requires
 write-whole-requires c κs =
-    let h = aimed (setupOf (c .before .before .before .before .before .before .before .before .before .args .registers)) (cellOf (setupOf (c .before .before .before .before .before .before .before .before .before .args .registers)) (c .before .before .before .before .before .before .before .before .before .args .address)) (c .before .before .before .target2 .given .1) (c .before .before .before .before .before .before .judge-count .ensures) (c .before .before .before .before .before .aim .ensures) in
+    let a = c .before .before .before .before .before .before .before .before .before .args in
+    let h = aimed (a .registers) (a .address) (c .before .before .before .target2 .given .1) (c .before .before .before .before .before .before .judge-count .ensures) (c .before .before .before .before .before .aim .ensures) in
     (h .0, h .1, c .before .if1 .taken)
 
 same-length : tie.Need-same-length
@@ -42,19 +41,20 @@ returns c = search needs
 
 write-part-requires : tie.Need-write-part-requires
 write-part-requires c κs =
-    let h = aimed (setupOf (c .before .before .before .before .before .before .before .before .before .args .registers)) (cellOf (setupOf (c .before .before .before .before .before .before .before .before .before .args .registers)) (c .before .before .before .before .before .before .before .before .before .args .address)) (c .before .before .before .target2 .given .1) (c .before .before .before .before .before .before .judge-count .ensures) (c .before .before .before .before .before .aim .ensures) in
-    (h .0, h .1, omega (arith, c .before .if1 .left, count-fits (c .before .before .before .before .before .before .before .before .before .args .address) (length (c .before .before .before .before .before .before .before .before .before .args .bytes .now)) (early-none _ _ (h .0) .none-yet)))
+    let a = c .before .before .before .before .before .before .before .before .before .args in
+    let h = aimed (a .registers) (a .address) (c .before .before .before .target2 .given .1) (c .before .before .before .before .before .before .judge-count .ensures) (c .before .before .before .before .before .aim .ensures) in
+    (h .0, h .1, omega (arith, c .before .if1 .left, count-fits (a .address) (length (a .bytes .now)) (early-none _ _ (h .0) .none-yet)))
 
 returns-2 : tie.Need-returns-2
 returns-2 c =
     let a = c .before .before .before .before .before .before .before .args in
-    let h = aimed (setupOf (c .before .before .before .before .before .before .before .args .registers)) (cellOf (setupOf (c .before .before .before .before .before .before .before .args .registers)) (c .before .before .before .before .before .before .before .args .address)) (c .before .target .given .1) (c .before .before .before .before .judge-count .ensures) (c .before .before .before .aim .ensures) in
+    let h = aimed (a .registers) (a .address) (c .before .target .given .1) (c .before .before .before .before .judge-count .ensures) (c .before .before .before .aim .ensures) in
     sym (write-refused columns (a .registers) (a .cells .now) (a .address) (a .bytes .now) (paper (c .before .target .given .0 .0)) h)
 
 returns-3 : tie.Need-returns-3
 returns-3 c =
     let a = c .before .before .before .before .before .before .before .args in
-    let h = aimed (setupOf (c .before .before .before .before .before .before .before .args .registers)) (cellOf (setupOf (c .before .before .before .before .before .before .before .args .registers)) (c .before .before .before .before .before .before .before .args .address)) (c .before .enum-told .given .1) (c .before .before .before .before .judge-count .ensures) (c .before .before .before .aim .ensures) in
+    let h = aimed (a .registers) (a .address) (c .before .enum-told .given .1) (c .before .before .before .before .judge-count .ensures) (c .before .before .before .aim .ensures) in
     simp (c .answer .ensures) (sym (write-missed columns (a .registers) (a .cells .now) (a .address) (a .bytes .now) (h .0) (h .1)))
 
 same-length-2 : tie.Need-same-length-2
