@@ -1,0 +1,15 @@
+use borrow.Author.Needs.{needs}
+use Rattle.mpc106.proofs.mpc106_register_write.Statement.{statement}
+use Rattle.mpc106.proofs.mpc106_register_write.Tie as tie
+
+write-requires : tie.Need-write-requires
+write-requires c κs = search needs
+
+of-verdict-requires : tie.Need-of-verdict-requires
+of-verdict-requires c κs = search needs
+
+returns : tie.Need-returns
+returns c = simp (← c .before .before .before .write .ensures, c .of-verdict .ensures)
+
+pub mpc106-register-write-spec : {M : Type 1} → statement M
+mpc106-register-write-spec = tie.close (tie.spec write-requires of-verdict-requires returns)

@@ -1,0 +1,158 @@
+//! A record, lent cells and calls on them, run on both sides.
+
+use std::fmt;
+
+use model::{Call, Record};
+
+use crate::answers::ACCEPTED;
+use crate::coverage::Coverage;
+use crate::request::{nonzero, Given, Request, State};
+use crate::shrink::{self, Budget};
+
+/// The kind of a call with the part of its answer that names the way it went.
+pub type Met = (&'static str, u32);
+
+/// Where each call gets what the one before left.
+#[derive(Clone)]
+pub struct Case {
+    pub record: Record,
+    pub cells: Vec<u8>,
+    pub requests: Vec<Request>,
+}
+
+/// The first call at which the sides differ, and in what.
+pub struct Difference {
+    pub index: usize,
+    pub text: String,
+}
+
+impl Case {
+    /// Answer, filled place, buffer, record and cells are compared after each
+    /// call.
+    pub fn run(&self, coverage: &mut Coverage<Met>) -> Option<Difference> {
+        let mut library = State::new(self.record, &self.cells);
+        let mut model = library.clone();
+        for (index, request) in self.requests.iter().enumerate() {
+            let from_library = library.ask_library(request);
+            let from_model = model.ask_model(request);
+            coverage.meet(met(request, from_model.answer));
+            let text = Given::difference(&from_library, &from_model)
+                .or_else(|| State::difference(&library, &model));
+            if let Some(text) = text {
+                return Some(Difference { index, text });
+            }
+        }
+        None
+    }
+
+    /// Runs the case. If the sides differ, the error shows the smallest case
+    /// found that still makes them differ.
+    pub fn check(&self, coverage: &mut Coverage<Met>) -> Result<(), String> {
+        match self.run(coverage) {
+            None => Ok(()),
+            Some(difference) => Err(self.smallest(difference.index)),
+        }
+    }
+
+    fn smallest(&self, index: usize) -> String {
+        let mut case = self.clone();
+        case.requests.truncate(index + 1);
+        case.shrink(&Budget::new());
+        match case.run(&mut Coverage::new()) {
+            Some(difference) => format!("{case} at call {}: {}", difference.index, difference.text),
+            None => format!("{case}, which now makes no difference: the calls are not repeatable"),
+        }
+    }
+
+    fn shrink(&mut self, budget: &Budget) {
+        let fails = |case: &Case| case.run(&mut Coverage::new()).is_some();
+
+        let mut trial = self.clone();
+        self.requests = shrink::fewer(budget, self.requests.clone(), |requests| {
+            trial.requests = requests.to_vec();
+            fails(&trial)
+        });
+
+        let mut trial = self.clone();
+        let record = shrink::zeroed(budget, self.record.bytes.to_vec(), |bytes| {
+            trial.record.bytes.copy_from_slice(bytes);
+            fails(&trial)
+        });
+        self.record.bytes.copy_from_slice(&record);
+
+        let mut trial = self.clone();
+        self.cells = shrink::zeroed(budget, self.cells.clone(), |bytes| {
+            trial.cells.copy_from_slice(bytes);
+            fails(&trial)
+        });
+
+        for index in 0..self.requests.len() {
+            self.shrink_second_record(budget, index);
+        }
+    }
+
+    /// The other record of an alike call is input too.
+    fn shrink_second_record(&mut self, budget: &Budget, index: usize) {
+        let Request::Alike(second) = &self.requests[index] else {
+            return;
+        };
+        let with = |bytes: &[u8]| {
+            let mut record = Record::fresh();
+            record.bytes.copy_from_slice(bytes);
+            Request::Alike(Box::new(record))
+        };
+        let mut trial = self.clone();
+        let bytes = shrink::zeroed(budget, second.bytes.to_vec(), |bytes| {
+            trial.requests[index] = with(bytes);
+            trial.run(&mut Coverage::new()).is_some()
+        });
+        self.requests[index] = with(&bytes);
+    }
+}
+
+impl fmt::Display for Case {
+    fn fmt(&self, f: &mut fmt::Formatter) -> fmt::Result {
+        write!(f, "record {}", nonzero(&self.record.bytes))?;
+        if !self.cells.is_empty() {
+            write!(f, ", {} lent bytes ", self.cells.len())?;
+            write!(f, "{}", nonzero(&self.cells))?;
+        }
+        for (index, request) in self.requests.iter().enumerate() {
+            write!(f, "{} {request}", if index == 0 { "," } else { ";" })?;
+        }
+        Ok(())
+    }
+}
+
+/// A register's value and the bank of a refusal don't name a way of their own.
+fn met(request: &Request, answer: u32) -> Met {
+    let kind = match request {
+        Request::Judge => "judge",
+        Request::Map(_) => "map",
+        Request::WayBack { .. } => "way back",
+        Request::Alike(_) => "alike",
+        Request::Listed(Call::Read { .. }) => "read",
+        Request::Listed(Call::Write { .. }) => "write",
+        Request::Listed(Call::Flip { .. }) => "flip",
+        Request::Listed(Call::Scrub { .. }) => "scrub",
+        Request::Listed(Call::ReadRegister { .. }) => "get",
+        Request::Listed(Call::WriteRegister { .. }) => "set",
+    };
+    let way = match answer {
+        refused if refused < ACCEPTED => refused % 256,
+        _ if kind == "get" => ACCEPTED,
+        accepted => accepted,
+    };
+    (kind, way)
+}
+
+/// All the ways of one kind of call that a test is to meet.
+pub fn ways(
+    kind: &'static str,
+    accepted: &'static [u32],
+    refused: &'static [u32],
+) -> impl Iterator<Item = Met> {
+    let accepted = accepted.iter().map(|given| ACCEPTED + given);
+    let refused = refused.iter().copied();
+    accepted.chain(refused).map(move |way| (kind, way))
+}

@@ -1,0 +1,130 @@
+//! Random records and addresses, beyond those that the model's own
+//! generators draw.
+
+use model::gen::{setups, Rng};
+use model::map::{self, Column, Layout, Row};
+use model::record::{is_extended, offset, SWITCH_ON};
+use model::Record;
+
+/// Addresses at the ends of the address space and of the ten bits of an MB.
+const EDGES: [u32; 8] = [
+    0,
+    7,
+    8,
+    0x3FFF_FFFF,
+    0x4000_0000,
+    0x4000_0007,
+    0xFFFF_FFF8,
+    0xFFFF_FFFF,
+];
+
+/// Accepted (on and off), refused, or made by hand.
+pub fn record(rng: &mut Rng) -> Record {
+    let mut record = match rng.below(10) {
+        0..=3 => setups::accepted(rng, u32::MAX),
+        4 => setups::accepted_draft(rng, u32::MAX),
+        5 => setups::refused_draft(rng),
+        6 => refused_but_on(rng),
+        _ => setups::made_by_hand(rng),
+    };
+    if rng.percent(50) {
+        scatter_error_registers(rng, &mut record);
+    }
+    record
+}
+
+/// A record that is on; only a hand can have made it so where it is refused.
+pub fn mostly_on(rng: &mut Rng) -> Record {
+    let mut record = match rng.below(10) {
+        0 => record(rng),
+        1 | 2 => setups::made_by_hand(rng),
+        _ => setups::accepted(rng, u32::MAX),
+    };
+    if rng.percent(70) {
+        scatter_error_registers(rng, &mut record);
+    }
+    record
+}
+
+fn refused_but_on(rng: &mut Rng) -> Record {
+    let mut record = setups::refused_draft(rng);
+    record.set(offset::SWITCH, SWITCH_ON);
+    record
+}
+
+/// Counter and trigger often stand next to each other, the detections are
+/// often clear: else a trigger or an error address would be rare.
+pub fn scatter_error_registers(rng: &mut Rng, record: &mut Record) {
+    let counter = match rng.below(3) {
+        0 => rng.pick(&[0, 1, 253, 254, 255]),
+        _ => rng.byte(),
+    };
+    record.set(offset::COUNTER, counter);
+    record.set(offset::TRIGGER, counter.wrapping_add(rng.below(4) as u8));
+    for enables in [offset::ERROR_ENABLE_1, offset::ERROR_ENABLE_2] {
+        record.set(enables, [rng.byte(), 0xFF][rng.below(2) as usize]);
+    }
+    for detections in [offset::ERROR_DETECTION_1, offset::ERROR_DETECTION_2] {
+        record.set(detections, if rng.percent(70) { 0 } else { rng.byte() });
+    }
+    for place in offset::ERROR_ADDRESS..=offset::ERROR_ADDRESS_END {
+        record.set(place, rng.byte());
+    }
+}
+
+/// Changes that no address feels: registers of banks that are off, error
+/// registers, bytes at no listed offset, the high bits of extended bytes.
+pub fn harmless_change(rng: &mut Rng, record: &Record) -> Record {
+    let mut other = *record;
+    for _ in 0..1 + rng.below(6) {
+        let bank = rng.below(8) as u8;
+        match rng.below(4) {
+            0 if !record.is_enabled(bank) => {
+                let register = 0x80 + 8 * rng.below(4) as u8 + bank;
+                other.set(register, rng.byte());
+            }
+            1 => {
+                let place = 0x88 + 16 * rng.below(2) as u8 + bank;
+                debug_assert!(is_extended(place));
+                other.set(place, other.at(place) & 3 | rng.byte() & 0xFC);
+            }
+            2 => scatter_error_registers(rng, &mut other),
+            _ => other.set(rng.byte() & 0x7F, rng.byte()),
+        }
+    }
+    other
+}
+
+/// An address: near a bank where the record has any, at an edge, the same
+/// with a bit above the ten of an MB, or anywhere.
+pub fn address(rng: &mut Rng, layout: Option<&Layout>) -> u32 {
+    match (rng.below(12), layout) {
+        (0, _) => rng.pick(&EDGES),
+        (1, _) => rng.next_u64() as u32,
+        (2, Some(layout)) => setups::address(rng, layout) | 1 << (30 + rng.below(2)),
+        (_, Some(layout)) => setups::address(rng, layout),
+        (_, None) => rng.below(1 << 30),
+    }
+}
+
+/// Addresses of the doublewords whose cells stand at these numbers; fewer
+/// where no address has the cell, none where the record is off or refused.
+pub fn addresses_of_cells(record: &Record, cells: &[u32]) -> Vec<u32> {
+    let Ok(layout) = map::switched_on(record) else {
+        return Vec::new();
+    };
+    let mut addresses = Vec::new();
+    let mut first = 0;
+    for (n, bank) in layout.enabled() {
+        for &cell in cells {
+            let Some(w) = cell.checked_sub(first).filter(|&w| w < bank.cells()) else {
+                continue;
+            };
+            let row = Row(w >> bank.column_bits);
+            let column = Column(w % (1 << bank.column_bits));
+            addresses.extend(map::way_back(record, n, row, column));
+        }
+        first += bank.cells();
+    }
+    addresses
+}

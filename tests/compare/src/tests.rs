@@ -1,0 +1,47 @@
+//! The tests by name.
+
+mod examples;
+mod lists;
+mod map;
+mod memory;
+mod registers;
+mod scripts;
+mod shrinking;
+
+use model::gen::Rng;
+
+use crate::busline::Busline;
+
+/// A test gives its size, or the smallest input found that makes a
+/// difference.
+pub struct Test {
+    pub name: &'static str,
+    pub run: fn(&mut Rng, &Busline) -> Result<String, String>,
+}
+
+pub const TESTS: &[Test] = &[
+    test("shrinking", |_, _| shrinking::only_the_guilty_is_left()),
+    test("examples", |_, _| examples::places_and_lengths()),
+    test("examples-memory", |_, _| examples::memory_and_errors()),
+    test("examples-lines", |_, busline| examples::lines(busline)),
+    test("bank-ends", |_, busline| examples::bank_ends(busline)),
+    test("registers", |rng, _| registers::random_calls(rng)),
+    test("registers-every-write", |rng, _| {
+        registers::every_write(rng)
+    }),
+    test("map", |rng, _| map::addresses(rng)),
+    test("way-back", |rng, _| map::way_back(rng)),
+    test("alike", |rng, _| map::alike(rng)),
+    test("alike-exhaustive", |rng, _| map::alike_exhaustive(rng)),
+    test("memory", |rng, _| memory::few_cells(rng)),
+    test("memory-two-banks", |rng, _| memory::two_banks(rng)),
+    test("every-flip", |rng, _| memory::every_flip(rng)),
+    test("lists", |rng, _| lists::against_flat_machine(rng)),
+    test("scripts", scripts::random_scripts),
+    test("scripts-mangled", scripts::mangled_scripts),
+    test("scripts-short", scripts::short_scripts),
+];
+
+const fn test(name: &'static str, run: fn(&mut Rng, &Busline) -> Result<String, String>) -> Test {
+    Test { name, run }
+}

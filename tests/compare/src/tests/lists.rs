@@ -1,0 +1,182 @@
+//! Lists under demand 3's premise: the library's answers against the flat
+//! machine, which has no cells.
+
+use model::code::CELL_BYTES;
+use model::flat::FlatMachine;
+use model::gen::{lists, setups, Rng};
+use model::map;
+use model::record::{offset, SWITCH_ON};
+use model::{Call, Outcome, Record};
+
+use crate::answers::{self, ACCEPTED, FLIPPED};
+use crate::case::{ways, Met};
+use crate::coverage::Coverage;
+use crate::draw;
+use crate::library;
+use crate::request::{hex, nonzero, Request, State};
+use crate::shrink::{self, Budget};
+
+const LISTS: usize = 1_500;
+const CALLS: usize = 400;
+
+/// All cells are lent; those never touched take no memory.
+const MOST_CELLS: u32 = 1 << 24;
+
+/// What is compared of a memory call: the answer, and a read's bytes.
+#[derive(PartialEq, Eq)]
+struct Compared {
+    answer: u32,
+    bytes: Vec<u8>,
+}
+
+pub fn against_flat_machine(rng: &mut Rng) -> Result<String, String> {
+    let mut coverage = Coverage::new();
+    for _ in 0..LISTS {
+        let off = record_that_is_off(rng);
+        let on = switched_on(&off)?;
+        let calls = lists::list(rng, &on, CALLS);
+        if !lists::keeps_condition(&on, &calls) {
+            return Err("a list that breaks demand 3's premise was drawn".to_string());
+        }
+        if difference(&off, &calls, &mut coverage).is_some() {
+            return Err(smallest(&off, &calls));
+        }
+    }
+    coverage.check(wanted())?;
+    Ok(format!("{LISTS} lists, {CALLS} calls each"))
+}
+
+/// "A list of demand 3 starts from any record that a write of 8 to F2,
+/// accepted while memory was off, has just returned": also from one made by
+/// hand, with any error registers and any bits that don't count.
+fn record_that_is_off(rng: &mut Rng) -> Record {
+    let draft = setups::accepted_draft(rng, MOST_CELLS);
+    let mut record = if rng.percent(60) {
+        draw::harmless_change(rng, &draft)
+    } else {
+        draft
+    };
+    if rng.percent(60) {
+        draw::scatter_error_registers(rng, &mut record);
+    }
+    if rng.percent(30) {
+        record.set(offset::SWITCH, rng.byte() & !SWITCH_ON);
+    }
+    record
+}
+
+/// The library's own write of 8 to F2.
+fn switched_on(off: &Record) -> Result<Record, String> {
+    let mut record = *off;
+    match library::register_write(&mut record, offset::SWITCH, SWITCH_ON) {
+        ACCEPTED => Ok(record),
+        answer => Err(format!(
+            "record {}, switching on: {} / accepted 0",
+            nonzero(&off.bytes),
+            answers::shown(answer)
+        )),
+    }
+}
+
+/// Runs a list on both; the first call at which they differ, and in what.
+fn difference(
+    off: &Record,
+    calls: &[Call],
+    coverage: &mut Coverage<Met>,
+) -> Option<(usize, String)> {
+    let on = switched_on(off).ok()?;
+    let mut flat = FlatMachine::of_record(&on).ok()?;
+    let mut library = State::zeroed(on, CELL_BYTES * map::judge(&on).ok()?.cells() as usize);
+    for (index, call) in calls.iter().enumerate() {
+        let from_library = from_library(&mut library, call);
+        let Some(from_flat) = flat.step(call).map(from_flat) else {
+            // A register call: it must only leave the memory calls alone.
+            continue;
+        };
+        coverage.meet((kind(call), from_flat.answer));
+        if from_library != from_flat {
+            let text = format!("{} / {}", shown(&from_library), shown(&from_flat));
+            return Some((index, text));
+        }
+    }
+    None
+}
+
+fn from_library(library: &mut State, call: &Call) -> Compared {
+    let mut given = library.ask_library(&Request::Listed(call.clone()));
+    let accepted_read = matches!(call, Call::Read { .. }) && given.answer >= ACCEPTED;
+    let bytes = if accepted_read {
+        given.lent_buffer().to_vec()
+    } else {
+        Vec::new()
+    };
+    Compared {
+        answer: given.answer,
+        bytes,
+    }
+}
+
+fn from_flat(outcome: Outcome) -> Compared {
+    let (answer, bytes) = match outcome {
+        Outcome::Refused(refusal) => (answers::of_refusal(refusal), Vec::new()),
+        Outcome::Answered(answer) => (answers::of_memory(Ok(answer)), Vec::new()),
+        Outcome::Read(answer, bytes) => (answers::of_memory(Ok(answer)), bytes),
+        Outcome::Flipped => (FLIPPED, Vec::new()),
+    };
+    Compared { answer, bytes }
+}
+
+/// Fewer calls that keep the premise, then a record with more zeros.
+fn smallest(off: &Record, calls: &[Call]) -> String {
+    let budget = Budget::new();
+    let fails = |off: &Record, calls: &[Call]| {
+        switched_on(off).is_ok_and(|on| lists::keeps_condition(&on, calls))
+            && difference(off, calls, &mut Coverage::new()).is_some()
+    };
+    let calls = shrink::fewer(&budget, calls.to_vec(), |fewer| fails(off, fewer));
+    let mut small = *off;
+    let bytes = shrink::zeroed(&budget, off.bytes.to_vec(), |bytes| {
+        small.bytes.copy_from_slice(bytes);
+        map::judge(&small).is_ok() && fails(&small, &calls)
+    });
+    small.bytes.copy_from_slice(&bytes);
+    let (index, text) = difference(&small, &calls, &mut Coverage::new()).unwrap_or((
+        0,
+        "no difference now: the calls are not repeatable".to_string(),
+    ));
+    let listed: Vec<String> = calls
+        .iter()
+        .map(|call| Request::Listed(call.clone()).to_string())
+        .collect();
+    format!(
+        "record {} switched on, {} at call {index}: {text}",
+        nonzero(&small.bytes),
+        listed.join("; ")
+    )
+}
+
+fn shown(compared: &Compared) -> String {
+    format!(
+        "{} {}",
+        answers::shown(compared.answer),
+        hex(&compared.bytes)
+    )
+}
+
+fn kind(call: &Call) -> &'static str {
+    match call {
+        Call::Read { .. } => "read",
+        Call::Write { .. } => "write",
+        Call::Flip { .. } => "flip",
+        Call::Scrub { .. } => "scrub",
+        Call::ReadRegister { .. } | Call::WriteRegister { .. } => "register",
+    }
+}
+
+/// Under the premise nothing is uncorrectable, and every cell is lent.
+fn wanted() -> impl Iterator<Item = Met> {
+    ways("read", &[0, 1, 4], &[6, 7])
+        .chain(ways("write", &[0, 1, 3, 4], &[6, 7]))
+        .chain(ways("scrub", &[0, 1, 4], &[]))
+        .chain(ways("flip", &[5], &[8, 10]))
+}

@@ -1,0 +1,78 @@
+//! Lists of calls, and their run on a record and lent cells.
+
+use crate::memory::{self, Answer};
+use crate::record::Record;
+use crate::refusal::Refusal;
+
+/// One call of a list.
+#[derive(Clone, Debug, PartialEq, Eq)]
+pub enum Call {
+    /// A read into a buffer of that many bytes, lent to this read alone.
+    Read {
+        address: u32,
+        count: usize,
+    },
+    Write {
+        address: u32,
+        bytes: Vec<u8>,
+    },
+    Flip {
+        address: u32,
+        bit: u8,
+    },
+    Scrub {
+        address: u32,
+    },
+    ReadRegister {
+        offset: u8,
+    },
+    WriteRegister {
+        offset: u8,
+        value: u8,
+    },
+}
+
+/// What is compared of a memory call.
+#[derive(Clone, Debug, PartialEq, Eq)]
+pub enum Outcome {
+    Refused(Refusal),
+    /// Of an accepted write or scrub.
+    Answered(Answer),
+    /// Of an accepted read: the answer and the bytes put in its buffer.
+    Read(Answer, Vec<u8>),
+    /// "Of a flip only that it was accepted."
+    Flipped,
+}
+
+/// Runs a list; each call gets what the one before left. Register calls give
+/// `None`: they are not compared.
+pub fn run(record: &mut Record, cells: &mut [u8], calls: &[Call]) -> Vec<Option<Outcome>> {
+    calls.iter().map(|call| step(record, cells, call)).collect()
+}
+
+/// Runs one call.
+pub fn step(record: &mut Record, cells: &mut [u8], call: &Call) -> Option<Outcome> {
+    let outcome = match call {
+        Call::Read { address, count } => {
+            let mut buffer = vec![0; *count];
+            memory::read(record, cells, *address, &mut buffer)
+                .map(|answer| Outcome::Read(answer, buffer))
+        }
+        Call::Write { address, bytes } => {
+            memory::write(record, cells, *address, bytes).map(Outcome::Answered)
+        }
+        Call::Flip { address, bit } => {
+            memory::flip(record, cells, *address, *bit).map(|()| Outcome::Flipped)
+        }
+        Call::Scrub { address } => memory::scrub(record, cells, *address).map(Outcome::Answered),
+        Call::ReadRegister { offset } => {
+            let _ = record.read_register(*offset);
+            return None;
+        }
+        Call::WriteRegister { offset, value } => {
+            let _ = record.write_register(*offset, *value);
+            return None;
+        }
+    };
+    Some(outcome.unwrap_or_else(Outcome::Refused))
+}

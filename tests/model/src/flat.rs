@@ -1,0 +1,149 @@
+//! The flat machine: "it knows the spans, one byte for each address in them,
+//! and a mark for each doubleword". It has no cells and no check bytes.
+
+use std::collections::{HashMap, HashSet};
+
+use crate::calls::{Call, Outcome};
+use crate::map;
+use crate::memory::Answer;
+use crate::record::Record;
+use crate::refusal::Refusal;
+
+/// First and last MB of a span, inclusive.
+#[derive(Clone, Copy, Debug, PartialEq, Eq)]
+pub struct Span {
+    pub start_mb: u32,
+    pub last_mb: u32,
+}
+
+/// "At first bytes are 0 and no mark stands": an address without an entry has
+/// the byte 0, a doubleword not in `marks` has none.
+#[derive(Clone, Debug, Default)]
+pub struct FlatMachine {
+    spans: Vec<Span>,
+    bytes: HashMap<u32, u8>,
+    marks: HashSet<u32>,
+}
+
+impl FlatMachine {
+    pub fn new(spans: Vec<Span>) -> Self {
+        FlatMachine {
+            spans,
+            ..FlatMachine::default()
+        }
+    }
+
+    /// The flat machine of a record that was just switched on.
+    pub fn of_record(record: &Record) -> Result<Self, Refusal> {
+        let layout = map::switched_on(record)?;
+        let spans = layout.enabled().map(|(_, bank)| Span {
+            start_mb: bank.start_mb,
+            last_mb: bank.last_mb,
+        });
+        Ok(FlatMachine::new(spans.collect()))
+    }
+
+    /// True if some span holds the address.
+    pub fn selects_bank(&self, address: u32) -> bool {
+        let megabyte = address >> 20;
+        self.spans
+            .iter()
+            .any(|span| span.start_mb <= megabyte && megabyte <= span.last_mb)
+    }
+
+    /// Runs a list. Register calls give `None`: "the error-register calls do
+    /// nothing to it", and "what register calls give is left" out.
+    pub fn run(&mut self, calls: &[Call]) -> Vec<Option<Outcome>> {
+        calls.iter().map(|call| self.step(call)).collect()
+    }
+
+    /// Runs one call.
+    pub fn step(&mut self, call: &Call) -> Option<Outcome> {
+        let outcome = match call {
+            Call::Read { address, count } => self.read(*address, *count),
+            Call::Write { address, bytes } => self.write(*address, bytes),
+            Call::Flip { address, bit } => self.flip(*address, *bit),
+            Call::Scrub { address } => Ok(self.scrub(*address)),
+            Call::ReadRegister { .. } | Call::WriteRegister { .. } => return None,
+        };
+        Some(outcome.unwrap_or_else(Outcome::Refused))
+    }
+
+    /// "A read gives the bytes and answers by the mark."
+    fn read(&self, address: u32, count: usize) -> Result<Outcome, Refusal> {
+        check_access(address, count)?;
+        if !self.selects_bank(address) {
+            return Ok(Outcome::Read(Answer::NoBank, vec![0xFF; count]));
+        }
+        let bytes = (address..=address + (count as u32 - 1))
+            .map(|at| self.bytes.get(&at).copied().unwrap_or(0))
+            .collect();
+        let marked = self.marks.contains(&doubleword(address));
+        Ok(Outcome::Read(answer_by_mark(marked), bytes))
+    }
+
+    /// "An accepted write puts its bytes, answers 'stored' if 8, else
+    /// corrected or clean as the mark stands, then clears it."
+    fn write(&mut self, address: u32, bytes: &[u8]) -> Result<Outcome, Refusal> {
+        check_access(address, bytes.len())?;
+        if !self.selects_bank(address) {
+            return Ok(Outcome::Answered(Answer::NoBank));
+        }
+        for (distance, &byte) in (0..).zip(bytes) {
+            self.bytes.insert(address + distance, byte);
+        }
+        let marked = self.marks.remove(&doubleword(address));
+        Ok(Outcome::Answered(if bytes.len() == 8 {
+            Answer::Stored
+        } else {
+            answer_by_mark(marked)
+        }))
+    }
+
+    /// "A flip sets the mark."
+    fn flip(&mut self, address: u32, bit: u8) -> Result<Outcome, Refusal> {
+        if bit > 71 {
+            return Err(Refusal::BadFlipBit);
+        }
+        if !self.selects_bank(address) {
+            return Err(Refusal::FlipWithoutBank);
+        }
+        self.marks.insert(doubleword(address));
+        Ok(Outcome::Flipped)
+    }
+
+    /// "A scrub answers by the mark, then clears it."
+    fn scrub(&mut self, address: u32) -> Outcome {
+        Outcome::Answered(if self.selects_bank(address) {
+            answer_by_mark(self.marks.remove(&doubleword(address)))
+        } else {
+            Answer::NoBank
+        })
+    }
+}
+
+/// "A doubleword is 8 bytes at a multiple of 8": its number.
+pub fn doubleword(address: u32) -> u32 {
+    address / 8
+}
+
+fn answer_by_mark(marked: bool) -> Answer {
+    if marked {
+        Answer::Corrected
+    } else {
+        Answer::Clean
+    }
+}
+
+/// Refusals 6 and 7 "follow from arguments". Written again, not shared with
+/// the cells, so that one slip doesn't hide in both.
+fn check_access(address: u32, count: usize) -> Result<(), Refusal> {
+    if !(1..=8).contains(&count) {
+        return Err(Refusal::BadCount);
+    }
+    let last = u64::from(address) + count as u64 - 1;
+    if u64::from(address) / 8 != last / 8 {
+        return Err(Refusal::LeavesDoubleword);
+    }
+    Ok(())
+}

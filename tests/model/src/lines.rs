@@ -1,0 +1,318 @@
+//! The line program `busline`.
+
+use std::io::{self, ErrorKind, Read, Write};
+
+use crate::code::CELL_BYTES;
+use crate::memory::{self, Answer};
+use crate::record::Record;
+use crate::refusal::Refusal;
+
+/// "7,280 lent cells."
+pub const LENT_CELLS: usize = 7280;
+
+/// "40 bytes at most", the LF not counted.
+pub const LONGEST_LINE: usize = 40;
+
+/// The largest count that two decimal digits can ask for.
+const LARGEST_COUNT: usize = 99;
+
+const CHUNK: usize = 1 << 16;
+
+const HEX: &[u8; 16] = b"0123456789abcdef";
+
+/// "All its lines share one record, fresh at first, and 7,280 lent cells,
+/// zero at first."
+pub struct LineProgram {
+    record: Record,
+    cells: Vec<u8>,
+}
+
+/// A well-formed line.
+#[derive(Clone, Copy, Debug, PartialEq, Eq)]
+enum Line {
+    Configure { offset: u8, value: u8 },
+    Get { offset: u8 },
+    Write { address: u32, bytes: Bytes },
+    Read { address: u32, count: u8 },
+    Flip { address: u32, bit: u8 },
+    Scrub { address: u32 },
+}
+
+/// One to eight bytes of a w line.
+#[derive(Clone, Copy, Debug, PartialEq, Eq)]
+struct Bytes {
+    bytes: [u8; 8],
+    count: usize,
+}
+
+impl Default for LineProgram {
+    fn default() -> Self {
+        LineProgram::new()
+    }
+}
+
+impl LineProgram {
+    pub fn new() -> Self {
+        LineProgram {
+            record: Record::fresh(),
+            cells: vec![0; CELL_BYTES * LENT_CELLS],
+        }
+    }
+
+    /// The record as the lines so far left it.
+    pub fn record(&self) -> &Record {
+        &self.record
+    }
+
+    /// The lent cells as the lines so far left them.
+    pub fn cells(&self) -> &[u8] {
+        &self.cells
+    }
+
+    /// Takes one line without its LF and appends the output line.
+    pub fn take_line(&mut self, line: &[u8], out: &mut Vec<u8>) {
+        match parse(line) {
+            Some(parsed) => {
+                out.push(line[0]);
+                if let Err(refusal) = self.execute(parsed, out) {
+                    put_refusal(out, refusal);
+                }
+            }
+            // "A malformed line prints ?,18."
+            None => {
+                out.push(b'?');
+                put_refusal(out, Refusal::MalformedLine);
+            }
+        }
+        out.push(b'\n');
+    }
+
+    /// Makes the call of a line. If it is accepted, ",0" and what follows are
+    /// put out; if refused, nothing.
+    fn execute(&mut self, line: Line, out: &mut Vec<u8>) -> Result<(), Refusal> {
+        let LineProgram { record, cells } = self;
+        match line {
+            Line::Configure { offset, value } => {
+                record.write_register(offset, value)?;
+                put_accepted(out);
+            }
+            Line::Get { offset } => {
+                let value = record.read_register(offset)?;
+                put_accepted(out);
+                out.push(b',');
+                put_hex(out, &[value]);
+            }
+            Line::Write { address, bytes } => {
+                let answer = memory::write(record, cells, address, bytes.as_slice())?;
+                put_answer(out, answer);
+            }
+            Line::Read { address, count } => {
+                let mut buffer = [0; LARGEST_COUNT];
+                let buffer = &mut buffer[..usize::from(count)];
+                let answer = memory::read(record, cells, address, buffer)?;
+                put_answer(out, answer);
+                out.push(b',');
+                put_hex(out, buffer);
+            }
+            Line::Flip { address, bit } => {
+                memory::flip(record, cells, address, bit)?;
+                put_accepted(out);
+            }
+            Line::Scrub { address } => {
+                let answer = memory::scrub(record, cells, address)?;
+                put_answer(out, answer);
+            }
+        }
+        Ok(())
+    }
+}
+
+impl Bytes {
+    fn as_slice(&self) -> &[u8] {
+        &self.bytes[..self.count]
+    }
+}
+
+/// Runs the program from an input to an output. Chunks of any size may come.
+pub fn run(mut input: impl Read, mut output: impl Write) -> io::Result<()> {
+    let mut program = LineProgram::new();
+    let mut splitter = LineSplitter::default();
+    let mut chunk = vec![0; CHUNK];
+    let mut out = Vec::with_capacity(2 * CHUNK);
+    loop {
+        let length = match input.read(&mut chunk) {
+            Ok(0) => break,
+            Ok(length) => length,
+            Err(error) if error.kind() == ErrorKind::Interrupted => continue,
+            Err(error) => return Err(error),
+        };
+        splitter.take_chunk(&chunk[..length], |line| program.take_line(line, &mut out));
+        if out.len() >= CHUNK {
+            output.write_all(&out)?;
+            out.clear();
+        }
+    }
+    splitter.finish(|line| program.take_line(line, &mut out));
+    output.write_all(&out)?;
+    output.flush()
+}
+
+/// Cuts chunks into lines, keeping an unfinished line for the next chunk.
+#[derive(Default)]
+struct LineSplitter {
+    /// The unfinished line; of one that is too long only so much that it is
+    /// still seen to be too long.
+    pending: Vec<u8>,
+}
+
+impl LineSplitter {
+    fn take_chunk(&mut self, mut chunk: &[u8], mut take_line: impl FnMut(&[u8])) {
+        while let Some(end) = chunk.iter().position(|&byte| byte == b'\n') {
+            if self.pending.is_empty() {
+                take_line(&chunk[..end]);
+            } else {
+                self.keep(&chunk[..end]);
+                take_line(&self.pending);
+                self.pending.clear();
+            }
+            chunk = &chunk[end + 1..];
+        }
+        self.keep(chunk);
+    }
+
+    fn keep(&mut self, part: &[u8]) {
+        let room = LONGEST_LINE + 1 - self.pending.len();
+        self.pending
+            .extend_from_slice(&part[..part.len().min(room)]);
+    }
+
+    /// "The last LF may lack": what is left is a line if it has any byte.
+    fn finish(self, mut take_line: impl FnMut(&[u8])) {
+        if !self.pending.is_empty() {
+            take_line(&self.pending);
+        }
+    }
+}
+
+/// A line's fields, or nothing if it is malformed: "fields parted by commas,
+/// no quoting".
+fn parse(line: &[u8]) -> Option<Line> {
+    if line.len() > LONGEST_LINE {
+        return None;
+    }
+    let mut fields = line.split(|&byte| byte == b',');
+    let letter = fields.next()?;
+    let parsed = match letter {
+        b"c" => Line::Configure {
+            offset: hex_byte(fields.next()?)?,
+            value: hex_byte(fields.next()?)?,
+        },
+        b"g" => Line::Get {
+            offset: hex_byte(fields.next()?)?,
+        },
+        b"w" => Line::Write {
+            address: hex_address(fields.next()?)?,
+            bytes: hex_bytes(fields.next()?)?,
+        },
+        b"r" => Line::Read {
+            address: hex_address(fields.next()?)?,
+            count: decimal(fields.next()?)?,
+        },
+        b"f" => Line::Flip {
+            address: hex_address(fields.next()?)?,
+            bit: decimal(fields.next()?)?,
+        },
+        b"s" => Line::Scrub {
+            address: hex_address(fields.next()?)?,
+        },
+        _ => return None,
+    };
+    fields.next().is_none().then_some(parsed)
+}
+
+/// Hexadecimal digits are lower case.
+fn hex_digit(digit: u8) -> Option<u8> {
+    match digit {
+        b'0'..=b'9' => Some(digit - b'0'),
+        b'a'..=b'f' => Some(digit - b'a' + 10),
+        _ => None,
+    }
+}
+
+/// "Two hexadecimal digits each."
+fn hex_byte(field: &[u8]) -> Option<u8> {
+    let &[high, low] = field else {
+        return None;
+    };
+    Some(hex_digit(high)? << 4 | hex_digit(low)?)
+}
+
+/// "Addresses have 8 hexadecimal digits."
+fn hex_address(field: &[u8]) -> Option<u32> {
+    if field.len() != 8 {
+        return None;
+    }
+    field.iter().try_fold(0, |address, &digit| {
+        Some(address << 4 | u32::from(hex_digit(digit)?))
+    })
+}
+
+/// "Bytes 2 to 16 (even)" digits.
+fn hex_bytes(field: &[u8]) -> Option<Bytes> {
+    if !matches!(field.len(), 2 | 4 | 6 | 8 | 10 | 12 | 14 | 16) {
+        return None;
+    }
+    let mut bytes = [0; 8];
+    for (byte, digits) in bytes.iter_mut().zip(field.chunks_exact(2)) {
+        *byte = hex_byte(digits)?;
+    }
+    Some(Bytes {
+        bytes,
+        count: field.len() / 2,
+    })
+}
+
+/// "Count and bit are one or two decimal digits without a leading zero (0
+/// itself is allowed)."
+fn decimal(field: &[u8]) -> Option<u8> {
+    match *field {
+        [digit @ b'0'..=b'9'] => Some(digit - b'0'),
+        [tens @ b'1'..=b'9', units @ b'0'..=b'9'] => Some((tens - b'0') * 10 + (units - b'0')),
+        _ => None,
+    }
+}
+
+/// "The letter, 0 or the refusal in decimal (of 12 to 14 the bank is not
+/// printed)": the part after the letter.
+fn put_refusal(out: &mut Vec<u8>, refusal: Refusal) {
+    let number = refusal.number();
+    out.push(b',');
+    if number >= 10 {
+        out.push(b'0' + number / 10);
+    }
+    out.push(b'0' + number % 10);
+}
+
+fn put_accepted(out: &mut Vec<u8>) {
+    out.extend_from_slice(b",0");
+}
+
+/// "n clean, c corrected, u uncorrectable, e no bank, p stored."
+fn put_answer(out: &mut Vec<u8>, answer: Answer) {
+    put_accepted(out);
+    out.push(b',');
+    out.push(match answer {
+        Answer::Clean => b'n',
+        Answer::Corrected => b'c',
+        Answer::Uncorrectable => b'u',
+        Answer::NoBank => b'e',
+        Answer::Stored => b'p',
+    });
+}
+
+fn put_hex(out: &mut Vec<u8>, bytes: &[u8]) {
+    for &byte in bytes {
+        out.push(HEX[usize::from(byte >> 4)]);
+        out.push(HEX[usize::from(byte & 15)]);
+    }
+}

@@ -1,0 +1,208 @@
+//! Memory calls on a record and lent cells, and what they do to the error
+//! registers.
+
+use std::ops::Range;
+
+use crate::code::{self, Reading, CELL_BYTES, FLIP_BITS};
+use crate::map::{self, Layout};
+use crate::record::{offset::*, Record};
+use crate::refusal::Refusal;
+
+/// C0 and C1, bit 2: the single-bit counter reached its trigger.
+const TRIGGER_BIT: u8 = 1 << 2;
+/// C0 and C1, bit 5: no bank.
+const NO_BANK_BIT: u8 = 1 << 5;
+/// C4 and C5, bit 3: uncorrectable.
+const UNCORRECTABLE_BIT: u8 = 1 << 3;
+
+/// The answer of an accepted read, write or scrub.
+#[derive(Clone, Copy, Debug, PartialEq, Eq, Hash)]
+pub enum Answer {
+    Clean,
+    Corrected,
+    Uncorrectable,
+    Stored,
+    NoBank,
+}
+
+impl From<Reading> for Answer {
+    fn from(reading: Reading) -> Self {
+        match reading {
+            Reading::Clean => Answer::Clean,
+            Reading::Corrected(_) => Answer::Corrected,
+            Reading::Uncorrectable => Answer::Uncorrectable,
+        }
+    }
+}
+
+/// Read of 1 to 8 bytes inside one doubleword, "the count being the lent
+/// buffer's length". "The cell is not changed."
+pub fn read(
+    record: &mut Record,
+    cells: &[u8],
+    address: u32,
+    buffer: &mut [u8],
+) -> Result<Answer, Refusal> {
+    let layout = map::switched_on(record)?;
+    let bytes = access(address, buffer.len())?;
+    let answer = match lent_cell(&layout, cells.len(), address)? {
+        // "No bank selected: a read fills its buffer with FF."
+        None => {
+            buffer.fill(0xFF);
+            Answer::NoBank
+        }
+        // "Clean and corrected give right bytes, uncorrectable gives the
+        // stored ones."
+        Some(range) => {
+            let (reading, data) = code::read_cell(cell(cells, range));
+            buffer.copy_from_slice(&data[bytes]);
+            reading.into()
+        }
+    };
+    report(record, answer, address);
+    Ok(answer)
+}
+
+/// Write of 1 to 8 bytes inside one doubleword.
+pub fn write(
+    record: &mut Record,
+    cells: &mut [u8],
+    address: u32,
+    bytes: &[u8],
+) -> Result<Answer, Refusal> {
+    let layout = map::switched_on(record)?;
+    let part = access(address, bytes.len())?;
+    let answer = match lent_cell(&layout, cells.len(), address)? {
+        None => Answer::NoBank,
+        Some(range) => write_cell(cell_mut(cells, range), part, bytes),
+    };
+    report(record, answer, address);
+    Ok(answer)
+}
+
+/// "Write of 8: stores data and check, looks at nothing old, answers
+/// 'stored'. Shorter: correct, merge, store, answering clean or corrected; on
+/// uncorrectable, which is then the answer, the cell stays."
+fn write_cell(cell: &mut [u8; CELL_BYTES], part: Range<usize>, bytes: &[u8]) -> Answer {
+    if let Ok(data) = bytes.try_into() {
+        code::store_cell(cell, data);
+        return Answer::Stored;
+    }
+    let (reading, mut data) = code::read_cell(cell);
+    if reading != Reading::Uncorrectable {
+        data[part].copy_from_slice(bytes);
+        code::store_cell(cell, &data);
+    }
+    reading.into()
+}
+
+/// "Flip: turns over one of bits 0 to 71 of the doubleword holding the
+/// address." "A flip touches no register", hence the shared record.
+pub fn flip(record: &Record, cells: &mut [u8], address: u32, bit: u8) -> Result<(), Refusal> {
+    let layout = map::switched_on(record)?;
+    if bit >= FLIP_BITS {
+        return Err(Refusal::BadFlipBit);
+    }
+    // 10 comes before 9: without a bank there is no cell to be lent.
+    let range = lent_cell(&layout, cells.len(), address)?.ok_or(Refusal::FlipWithoutBank)?;
+    code::flip(cell_mut(cells, range), bit);
+    Ok(())
+}
+
+/// "Scrub of the doubleword holding the address: answers as a read does; a
+/// corrected cell is stored again."
+pub fn scrub(record: &mut Record, cells: &mut [u8], address: u32) -> Result<Answer, Refusal> {
+    let layout = map::switched_on(record)?;
+    let answer = match lent_cell(&layout, cells.len(), address)? {
+        None => Answer::NoBank,
+        Some(range) => scrub_cell(cell_mut(cells, range)),
+    };
+    report(record, answer, address);
+    Ok(answer)
+}
+
+fn scrub_cell(cell: &mut [u8; CELL_BYTES]) -> Answer {
+    let (reading, data) = code::read_cell(cell);
+    if let Reading::Corrected(_) = reading {
+        code::store_cell(cell, &data);
+    }
+    reading.into()
+}
+
+/// The bytes of a doubleword that an access takes: refusal 6 before 7.
+fn access(address: u32, count: usize) -> Result<Range<usize>, Refusal> {
+    if count == 0 || count > 8 {
+        return Err(Refusal::BadCount);
+    }
+    let first = (address % 8) as usize;
+    if first + count > 8 {
+        return Err(Refusal::LeavesDoubleword);
+    }
+    Ok(first..first + count)
+}
+
+/// "Cell k is the nine lent bytes from 9k": their range, none without a bank,
+/// or refusal 9 if not all nine are lent.
+fn lent_cell(layout: &Layout, lent: usize, address: u32) -> Result<Option<Range<usize>>, Refusal> {
+    let Some(place) = layout.locate(address) else {
+        return Ok(None);
+    };
+    let first = CELL_BYTES * place.cell as usize;
+    let range = first..first + CELL_BYTES;
+    if range.end <= lent {
+        Ok(Some(range))
+    } else {
+        Err(Refusal::CellNotLent)
+    }
+}
+
+fn cell(cells: &[u8], range: Range<usize>) -> &[u8; CELL_BYTES] {
+    cells[range].try_into().expect("a cell is nine bytes")
+}
+
+fn cell_mut(cells: &mut [u8], range: Range<usize>) -> &mut [u8; CELL_BYTES] {
+    (&mut cells[range])
+        .try_into()
+        .expect("a cell is nine bytes")
+}
+
+/// The error registers after a read, write or scrub.
+fn report(record: &mut Record, answer: Answer, address: u32) {
+    let was_quiet = record.at(ERROR_DETECTION_1) == 0 && record.at(ERROR_DETECTION_2) == 0;
+    let detected = match answer {
+        Answer::Clean | Answer::Stored => false,
+        Answer::Corrected => count_correction(record),
+        // "'No bank' sets C1 bit 5 if C0 bit 5 is set."
+        Answer::NoBank => detect(record, ERROR_ENABLE_1, ERROR_DETECTION_1, NO_BANK_BIT),
+        // "'Uncorrectable' sets C5 bit 3 if C4 bit 3 is set."
+        Answer::Uncorrectable => {
+            detect(record, ERROR_ENABLE_2, ERROR_DETECTION_2, UNCORRECTABLE_BIT)
+        }
+    };
+    // "If such a bit is set while C1 and C5 were both zero, the call's
+    // address goes to C8 to CB", "lowest byte first".
+    if detected && was_quiet {
+        for (offset, byte) in (ERROR_ADDRESS..).zip(address.to_le_bytes()) {
+            record.set(offset, byte);
+        }
+    }
+}
+
+/// "Each 'corrected' raises B8 by one, stopping at 255. If it rose and now
+/// equals B9 and C0 bit 2 is set, C1 bit 2 is set." True if it was set.
+fn count_correction(record: &mut Record) -> bool {
+    let Some(count) = record.at(COUNTER).checked_add(1) else {
+        return false;
+    };
+    record.set(COUNTER, count);
+    count == record.at(TRIGGER) && detect(record, ERROR_ENABLE_1, ERROR_DETECTION_1, TRIGGER_BIT)
+}
+
+/// Sets a detection bit if its enable bit stands. True if it was set.
+fn detect(record: &mut Record, enables: u8, detections: u8, bit: u8) -> bool {
+    if record.at(enables) & bit == 0 {
+        return false;
+    }
+    record.set(detections, record.at(detections) | bit);
+    true
+}

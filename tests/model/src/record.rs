@@ -1,0 +1,253 @@
+//! The register record: 256 bytes, the fields of a bank, and the register
+//! calls.
+
+use crate::map;
+use crate::refusal::Refusal;
+
+/// Number of banks.
+pub const BANKS: u8 = 8;
+
+/// Offsets of the listed registers. Where a register stands once for each
+/// bank, the constant is that of bank 0.
+pub mod offset {
+    pub const START: u8 = 0x80;
+    pub const START_EXTENDED: u8 = 0x88;
+    pub const LAST: u8 = 0x90;
+    pub const LAST_EXTENDED: u8 = 0x98;
+    pub const BANK_ENABLES: u8 = 0xA0;
+    pub const COUNTER: u8 = 0xB8;
+    pub const TRIGGER: u8 = 0xB9;
+    pub const ERROR_ENABLE_1: u8 = 0xC0;
+    pub const ERROR_DETECTION_1: u8 = 0xC1;
+    pub const ERROR_ENABLE_2: u8 = 0xC4;
+    pub const ERROR_DETECTION_2: u8 = 0xC5;
+    pub const ERROR_ADDRESS: u8 = 0xC8;
+    pub const ERROR_ADDRESS_END: u8 = 0xCB;
+    pub const ROW_CODES_LOW: u8 = 0xF0;
+    pub const ROW_CODES_HIGH: u8 = 0xF1;
+    pub const SWITCH: u8 = 0xF2;
+}
+
+use offset::*;
+
+/// "F2: bit 3 switches memory on."
+pub const SWITCH_ON: u8 = 1 << 3;
+
+/// "A record holds 256 bytes, one for each offset." The bytes are public: a
+/// record may be made by hand.
+#[derive(Clone, Copy, Debug, PartialEq, Eq)]
+pub struct Record {
+    pub bytes: [u8; 256],
+}
+
+impl Record {
+    /// "A fresh one is all zero."
+    pub fn fresh() -> Self {
+        Record { bytes: [0; 256] }
+    }
+
+    /// The byte at an offset as it stands, listed or not.
+    pub fn at(&self, offset: u8) -> u8 {
+        self.bytes[usize::from(offset)]
+    }
+
+    /// Puts a byte at an offset without any judgement.
+    pub fn set(&mut self, offset: u8, value: u8) {
+        self.bytes[usize::from(offset)] = value;
+    }
+
+    /// Memory is on when bit 3 of F2 stands, whatever its other bits are (a
+    /// record made by hand may have some).
+    pub fn is_on(&self) -> bool {
+        self.at(SWITCH) & SWITCH_ON != 0
+    }
+
+    /// "A0: bit n enables bank n."
+    pub fn is_enabled(&self, bank: u8) -> bool {
+        self.at(BANK_ENABLES) >> bank & 1 == 1
+    }
+
+    /// Start of a bank in MB.
+    pub fn start_mb(&self, bank: u8) -> u32 {
+        self.ten_bits(START + bank, START_EXTENDED + bank)
+    }
+
+    /// Last MB of a bank, inclusive.
+    pub fn last_mb(&self, bank: u8) -> u32 {
+        self.ten_bits(LAST + bank, LAST_EXTENDED + bank)
+    }
+
+    /// "Low eight bits, then two extended bits"; "extended bytes count only
+    /// by their two low bits".
+    fn ten_bits(&self, low: u8, extended: u8) -> u32 {
+        u32::from(self.at(low)) | u32::from(self.at(extended) & 3) << 8
+    }
+
+    /// "Row codes, two bits a bank: banks 0 to 3 from the low end of F0, 4 to
+    /// 7 of F1"; "row codes 0, 1, 2, 3 mean R = 9, 10, 11, 12 row bits".
+    pub fn row_bits(&self, bank: u8) -> u32 {
+        let codes = if bank < 4 {
+            self.at(ROW_CODES_LOW)
+        } else {
+            self.at(ROW_CODES_HIGH)
+        };
+        9 + u32::from(codes >> (2 * (bank % 4)) & 3)
+    }
+
+    /// Register read: the byte as it stands, or refusal 1.
+    pub fn read_register(&self, offset: u8) -> Result<u8, Refusal> {
+        if is_listed(offset) {
+            Ok(self.at(offset))
+        } else {
+            Err(Refusal::OffsetNotListed)
+        }
+    }
+
+    /// Register write: refusals 1 to 4, and 11 to 14 for switching on. A
+    /// refused write leaves the record as it was.
+    pub fn write_register(&mut self, offset: u8, value: u8) -> Result<(), Refusal> {
+        self.check_write(offset, value)?;
+        match offset {
+            // "Writing a 1 clears that bit."
+            ERROR_DETECTION_1 | ERROR_DETECTION_2 => self.set(offset, self.at(offset) & !value),
+            _ => self.set(offset, value),
+        }
+        Ok(())
+    }
+
+    /// "Lower numbers go first."
+    fn check_write(&self, offset: u8, value: u8) -> Result<(), Refusal> {
+        if !is_listed(offset) {
+            return Err(Refusal::OffsetNotListed);
+        }
+        if (ERROR_ADDRESS..=ERROR_ADDRESS_END).contains(&offset) {
+            return Err(Refusal::ReadOnly);
+        }
+        if !is_allowed_value(offset, value) {
+            return Err(Refusal::BadValue);
+        }
+        if self.is_on() && is_locked_while_on(offset) {
+            return Err(Refusal::LockedWhileOn);
+        }
+        // "Only switching on judges the banks"; "writing 8 to F2 when on
+        // checks nothing and is accepted".
+        if offset == SWITCH && value == SWITCH_ON && !self.is_on() {
+            map::judge(self)?;
+        }
+        Ok(())
+    }
+}
+
+/// The offsets in the document's table of registers.
+pub fn is_listed(offset: u8) -> bool {
+    matches!(
+        offset,
+        START..=BANK_ENABLES
+            | COUNTER
+            | TRIGGER
+            | ERROR_ENABLE_1
+            | ERROR_DETECTION_1
+            | ERROR_ENABLE_2
+            | ERROR_DETECTION_2
+            | ERROR_ADDRESS..=ERROR_ADDRESS_END
+            | ROW_CODES_LOW..=SWITCH
+    )
+}
+
+/// The extended bytes of starts (88 to 8F) and of ends (98 to 9F).
+pub fn is_extended(offset: u8) -> bool {
+    matches!(offset, 0x88..=0x8F | 0x98..=0x9F)
+}
+
+/// Refusal 3: "extended byte above 3; F2 neither 0 nor 8".
+fn is_allowed_value(offset: u8, value: u8) -> bool {
+    if is_extended(offset) {
+        value <= 3
+    } else if offset == SWITCH {
+        value == 0 || value == SWITCH_ON
+    } else {
+        true
+    }
+}
+
+/// Refusal 4: "write at 80 to A0, F0, F1 while F2 is on".
+fn is_locked_while_on(offset: u8) -> bool {
+    matches!(
+        offset,
+        START..=BANK_ENABLES | ROW_CODES_LOW | ROW_CODES_HIGH
+    )
+}
+
+#[cfg(test)]
+mod tests {
+    use super::*;
+
+    #[test]
+    fn listed_offsets_are_those_of_the_table() {
+        let mut listed: Vec<u8> = (0x80..=0xA0).collect();
+        listed.extend([0xB8, 0xB9, 0xC0, 0xC1, 0xC4, 0xC5]);
+        listed.extend([0xC8, 0xC9, 0xCA, 0xCB, 0xF0, 0xF1, 0xF2]);
+        let record = Record::fresh();
+        for offset in 0..=255 {
+            let expected = if listed.contains(&offset) {
+                Ok(0)
+            } else {
+                Err(Refusal::OffsetNotListed)
+            };
+            assert_eq!(record.read_register(offset), expected, "{offset:02x}");
+        }
+    }
+
+    #[test]
+    fn fields_of_a_bank() {
+        let mut record = Record::fresh();
+        record.set(0x85, 0x12);
+        record.set(0x8D, 0xFE);
+        record.set(0x95, 0xFF);
+        record.set(0x9D, 0x03);
+        record.set(0xA0, 0x20);
+        record.set(0xF0, 0b11_10_01_00);
+        record.set(0xF1, 0b00_01_10_11);
+        assert_eq!(record.start_mb(5), 0x212);
+        assert_eq!(record.last_mb(5), 1023);
+        let enabled: Vec<u8> = (0..8).filter(|&n| record.is_enabled(n)).collect();
+        assert_eq!(enabled, [5]);
+        let rows: Vec<u32> = (0..8).map(|n| record.row_bits(n)).collect();
+        assert_eq!(rows, [9, 10, 11, 12, 12, 11, 10, 9]);
+    }
+
+    #[test]
+    fn writing_a_one_clears_a_detection_bit() {
+        let mut record = Record::fresh();
+        record.set(0xC1, 0b0010_0100);
+        record.set(0xC5, 0b0000_1000);
+        assert_eq!(record.write_register(0xC1, 0b1000_0100), Ok(()));
+        assert_eq!(record.write_register(0xC5, 0b1111_0111), Ok(()));
+        assert_eq!(record.at(0xC1), 0b0010_0000);
+        assert_eq!(record.at(0xC5), 0b0000_1000);
+    }
+
+    #[test]
+    fn a_write_of_8_while_on_stores_8_and_checks_nothing() {
+        let mut record = Record::fresh();
+        record.set(SWITCH, 0xFB);
+        assert_eq!(record.write_register(SWITCH, 8), Ok(()));
+        assert_eq!(record.at(SWITCH), 8);
+        assert_eq!(record.write_register(SWITCH, 0), Ok(()));
+        assert_eq!(record.write_register(SWITCH, 0), Ok(()));
+        assert_eq!(record.write_register(SWITCH, 8), Err(Refusal::NoneEnabled));
+    }
+
+    #[test]
+    fn a_bad_value_goes_before_the_lock() {
+        let mut record = Record::fresh();
+        record.set(SWITCH, 8);
+        assert_eq!(record.write_register(0x88, 4), Err(Refusal::BadValue));
+        assert_eq!(record.write_register(0x88, 3), Err(Refusal::LockedWhileOn));
+        assert_eq!(record.write_register(0xA0, 0), Err(Refusal::LockedWhileOn));
+        assert_eq!(
+            record.write_register(0xA1, 0),
+            Err(Refusal::OffsetNotListed)
+        );
+    }
+}

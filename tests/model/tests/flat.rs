@@ -1,0 +1,120 @@
+//! The flat machine against the cells, over whole lists.
+
+use std::collections::HashMap;
+
+use model::calls::{self, Call, Outcome};
+use model::flat::{FlatMachine, Span};
+use model::gen::{lists, setups, Rng};
+use model::map::switched_on;
+use model::{Answer, Record};
+
+/// Cells of a set-up in these tests at most: some 38 MB of lent bytes.
+const CELL_LIMIT: u32 = 1 << 22;
+
+/// A record that an accepted write of 8 to F2 has just returned, its error
+/// registers of any value that writes can give.
+fn start_record(rng: &mut Rng) -> Record {
+    let mut record = setups::accepted_draft(rng, CELL_LIMIT);
+    for offset in [0xB8, 0xB9, 0xC0, 0xC4] {
+        record.write_register(offset, rng.byte()).unwrap();
+    }
+    record.write_register(0xF2, 8).unwrap();
+    record
+}
+
+#[test]
+fn flat_machine_against_cells() {
+    let mut seen: HashMap<String, u32> = HashMap::new();
+    for seed in 0..60 {
+        println!("seed {seed}");
+        let rng = &mut Rng::new(seed);
+        let start = start_record(rng);
+        let calls = lists::list(rng, &start, 2000);
+        assert!(lists::keeps_condition(&start, &calls), "seed {seed}");
+        let mut flat = FlatMachine::of_record(&start).unwrap();
+        let mut record = start;
+        let mut cells = vec![0; 9 * switched_on(&start).unwrap().cells() as usize];
+        for (place, call) in calls.iter().enumerate() {
+            let expected = flat.step(call);
+            let outcome = calls::step(&mut record, &mut cells, call);
+            assert_eq!(outcome, expected, "seed {seed}, place {place}: {call:?}");
+            *seen.entry(kind(&outcome)).or_default() += 1;
+        }
+    }
+    println!("{seen:?}");
+    assert_eq!(seen.len(), 13, "{seen:?}");
+}
+
+/// What kind of outcome it is, bytes left out.
+fn kind(outcome: &Option<Outcome>) -> String {
+    match outcome {
+        Some(Outcome::Read(answer, _)) => format!("read {answer:?}"),
+        other => format!("{other:?}"),
+    }
+}
+
+#[test]
+fn two_flips_break_the_condition() {
+    let record = start_record(&mut Rng::new(5));
+    let (_, bank) = switched_on(&record)
+        .unwrap()
+        .enabled()
+        .next()
+        .map(|(n, bank)| (n, *bank))
+        .unwrap();
+    let address = bank.start_mb << 20;
+    let flip = |bit| Call::Flip { address, bit };
+    let scrub = Call::Scrub { address };
+    let across = Call::Write {
+        address: address + 7,
+        bytes: vec![0; 2],
+    };
+    assert!(!lists::keeps_condition(&record, &[flip(1), flip(1)]));
+    assert!(!lists::keeps_condition(
+        &record,
+        &[flip(1), across, flip(2)]
+    ));
+    assert!(lists::keeps_condition(
+        &record,
+        &[flip(1), flip(72), scrub, flip(2)]
+    ));
+}
+
+/// A flat machine whose only span is MB 0.
+fn flat_megabyte() -> FlatMachine {
+    FlatMachine::new(vec![Span {
+        start_mb: 0,
+        last_mb: 0,
+    }])
+}
+
+fn write(address: u32, bytes: &[u8]) -> Call {
+    let bytes = bytes.to_vec();
+    Call::Write { address, bytes }
+}
+
+#[test]
+fn flat_machine_answers_by_the_mark() {
+    use Outcome::{Answered, Flipped, Read};
+    let (address, count) = (4, 2);
+    let read = || Call::Read { address, count };
+    let flip = || Call::Flip { address: 3, bit: 9 };
+    let scrub = || Call::Scrub { address: 1 };
+    let list = [
+        (read(), Read(Answer::Clean, vec![0, 0])),
+        (flip(), Flipped),
+        (read(), Read(Answer::Corrected, vec![0, 0])),
+        (write(5, &[0xAB]), Answered(Answer::Corrected)),
+        (read(), Read(Answer::Clean, vec![0, 0xAB])),
+        (flip(), Flipped),
+        (write(0, &[1; 8]), Answered(Answer::Stored)),
+        (write(6, &[2]), Answered(Answer::Clean)),
+        (flip(), Flipped),
+        (scrub(), Answered(Answer::Corrected)),
+        (scrub(), Answered(Answer::Clean)),
+    ];
+    let mut flat = flat_megabyte();
+    for (call, expected) in list {
+        assert_eq!(flat.step(&call), Some(expected));
+    }
+}
