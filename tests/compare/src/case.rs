@@ -86,28 +86,41 @@ impl Case {
             fails(&trial)
         });
 
-        for index in 0..self.requests.len() {
-            self.shrink_second_record(budget, index);
-        }
+        self.shrink_alike(budget);
     }
 
-    /// The other record of an alike call is input too.
-    fn shrink_second_record(&mut self, budget: &Budget, index: usize) {
-        let Request::Alike(second) = &self.requests[index] else {
+    /// The other record of an alike call is input too. What stands in both,
+    /// as a bank that doesn't matter does, can only go from both at once.
+    fn shrink_alike(&mut self, budget: &Budget) {
+        let [Request::Alike(second)] = self.requests.as_slice() else {
             return;
         };
-        let with = |bytes: &[u8]| {
-            let mut record = Record::fresh();
-            record.bytes.copy_from_slice(bytes);
-            Request::Alike(Box::new(record))
+        let (first, second) = (self.record, **second);
+        let masked = |masks: &[u8]| {
+            let of_both = &masks[512..];
+            Case {
+                record: mask(&mask(&first, &masks[..256]), of_both),
+                cells: Vec::new(),
+                requests: vec![Request::Alike(Box::new(mask(
+                    &mask(&second, &masks[256..512]),
+                    of_both,
+                )))],
+            }
         };
-        let mut trial = self.clone();
-        let bytes = shrink::zeroed(budget, second.bytes.to_vec(), |bytes| {
-            trial.requests[index] = with(bytes);
-            trial.run(&mut Coverage::new()).is_some()
+        let masks = shrink::zeroed(budget, vec![0xFF; 768], |masks| {
+            masked(masks).run(&mut Coverage::new()).is_some()
         });
-        self.requests[index] = with(&bytes);
+        *self = masked(&masks);
     }
+}
+
+/// The record with only those bits that stand in the mask.
+fn mask(record: &Record, mask: &[u8]) -> Record {
+    let mut masked = *record;
+    for (byte, mask) in masked.bytes.iter_mut().zip(mask) {
+        *byte &= mask;
+    }
+    masked
 }
 
 impl fmt::Display for Case {

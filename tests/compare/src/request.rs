@@ -144,7 +144,9 @@ impl Given {
         self.buffer.split_at(lent)
     }
 
-    fn shown(&self, lent: &[u8]) -> String {
+    /// As a reader would say it.
+    pub fn shown(&self) -> String {
+        let (lent, _) = self.parts();
         let filled = self.words.iter().take_while(|&&word| word != UNFILLED);
         let mut parts = vec![answers::shown(self.answer)];
         parts.extend(filled.map(|word| format!("{word:08x}")));
@@ -158,14 +160,10 @@ impl Given {
         if library == model {
             return None;
         }
-        let (lent_to_library, past_library) = library.parts();
-        let (lent_to_model, past_model) = model.parts();
-        if past_library != past_model {
+        if library.parts().1 != model.parts().1 {
             return Some("bytes past the buffer's end".to_string());
         }
-        let library = library.shown(lent_to_library);
-        let model = model.shown(lent_to_model);
-        Some(format!("{library} / {model}"))
+        Some(format!("{} / {}", library.shown(), model.shown()))
     }
 }
 

@@ -52,19 +52,25 @@ pub fn fewer<T: Clone>(
     }
 }
 
-/// Zeroes stretches of bytes, then single bits, while the bytes fail.
+/// Zeroes stretches of bytes, then single bits, while the bytes fail; again
+/// and again, since one byte may only matter as long as another stands.
 pub fn zeroed(
     budget: &Budget,
     mut bytes: Vec<u8>,
     mut fails: impl FnMut(&[u8]) -> bool,
 ) -> Vec<u8> {
-    let mut stretch = bytes.len();
-    while stretch > 0 {
-        zero_stretches(budget, &mut bytes, stretch, &mut fails);
-        stretch /= 2;
+    loop {
+        let before = bytes.clone();
+        let mut stretch = bytes.len();
+        while stretch > 0 {
+            zero_stretches(budget, &mut bytes, stretch, &mut fails);
+            stretch /= 2;
+        }
+        clear_bits(budget, &mut bytes, &mut fails);
+        if bytes == before {
+            return bytes;
+        }
     }
-    clear_bits(budget, &mut bytes, &mut fails);
-    bytes
 }
 
 fn zero_stretches(

@@ -5,9 +5,9 @@
 use model::lines;
 use model::{Call, Record};
 
-use crate::answers::{self, ACCEPTED, FLIPPED, NO_BANK};
+use crate::answers::{ACCEPTED, FLIPPED, NO_BANK};
 use crate::busline::{Busline, Feed};
-use crate::request::{hex, Given, Request, State};
+use crate::request::{Given, Request, State};
 
 const CLEAN: u32 = ACCEPTED;
 const CORRECTED: u32 = ACCEPTED + 1;
@@ -101,14 +101,9 @@ impl Sides {
     fn ask(&mut self, request: &Request, expected: impl Fn(&Given) -> bool) -> Result<(), String> {
         let from_library = self.library.ask_library(request);
         let from_model = self.model.ask_model(request);
-        for (side, mut given) in [("library", from_library), ("model", from_model)] {
+        for (side, given) in [("library", from_library), ("model", from_model)] {
             if !expected(&given) {
-                let answer = answers::shown(given.answer);
-                let words = given.words;
-                let bytes = hex(given.lent_buffer());
-                return Err(format!(
-                    "{request}: the {side} gives {answer} {words:x?} {bytes}"
-                ));
+                return Err(format!("{request}: the {side} gives {}", given.shown()));
             }
         }
         match State::difference(&self.library, &self.model) {

@@ -33,7 +33,7 @@ pub fn against_flat_machine(rng: &mut Rng) -> Result<String, String> {
     let mut coverage = Coverage::new();
     for _ in 0..LISTS {
         let off = record_that_is_off(rng);
-        let on = switched_on(&off)?;
+        let on = switched_on(&off).map_err(|_| smallest_refused(&off))?;
         let calls = lists::list(rng, &on, CALLS);
         if !lists::keeps_condition(&on, &calls) {
             return Err("a list that breaks demand 3's premise was drawn".to_string());
@@ -65,17 +65,29 @@ fn record_that_is_off(rng: &mut Rng) -> Record {
     record
 }
 
-/// The library's own write of 8 to F2.
-fn switched_on(off: &Record) -> Result<Record, String> {
+/// The library's own write of 8 to F2, or its answer if that is a refusal.
+fn switched_on(off: &Record) -> Result<Record, u32> {
     let mut record = *off;
     match library::register_write(&mut record, offset::SWITCH, SWITCH_ON) {
         ACCEPTED => Ok(record),
-        answer => Err(format!(
-            "record {}, switching on: {} / accepted 0",
-            nonzero(&off.bytes),
-            answers::shown(answer)
-        )),
+        refused => Err(refused),
     }
+}
+
+/// Of a record that the model accepts and the library does not.
+fn smallest_refused(off: &Record) -> String {
+    let mut small = *off;
+    let bytes = shrink::zeroed(&Budget::new(), off.bytes.to_vec(), |bytes| {
+        small.bytes.copy_from_slice(bytes);
+        map::judge(&small).is_ok() && switched_on(&small).is_err()
+    });
+    small.bytes.copy_from_slice(&bytes);
+    let answer = switched_on(&small).err().unwrap_or(ACCEPTED);
+    format!(
+        "record {}, switching on: {} / accepted 0",
+        nonzero(&bytes),
+        answers::shown(answer)
+    )
 }
 
 /// Runs a list on both; the first call at which they differ, and in what.
