@@ -95,18 +95,28 @@ fn new_byte(r: Registers, o: u8, v: u8) -> u8
     }
 }
 
+// A write in place: one byte is stored, or none.
+pub fn set(registers: &mut [u8; 256], offset: u8, value: u8) -> Verdict
+    ensures { λ v. ⌜ (paperVerdict v, record { bytes = now (registers .exit) }) ≡ writeAt (record { bytes = now (registers .entry) }) offset value ⌝ }
+{
+    let verdict = judge_write(Registers { bytes: *registers }, offset, value);
+    match verdict {
+        Verdict::Accepted => {
+            let byte = new_byte(Registers { bytes: *registers }, offset, value);
+            registers[offset as usize] = byte;
+            Verdict::Accepted
+        }
+        Verdict::Refused(x) => Verdict::Refused(x),
+    }
+}
+
 pub fn write(r: Registers, offset: u8, value: u8) -> Written
     ensures { λ w. ⌜ paperWritten w ≡ writeAt r offset value ⌝ }
 {
-    let verdict = judge_write(r, offset, value);
-    match verdict {
-        Verdict::Accepted => Written {
-            registers: r.with_byte(offset, new_byte(r, offset, value)),
-            verdict: Verdict::Accepted,
-        },
-        Verdict::Refused(x) => Written {
-            registers: r,
-            verdict: Verdict::Refused(x),
-        },
+    let mut bytes = r.bytes;
+    let verdict = set(&mut bytes, offset, value);
+    Written {
+        registers: Registers { bytes: bytes },
+        verdict: verdict,
     }
 }

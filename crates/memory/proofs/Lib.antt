@@ -1,10 +1,4 @@
-pub mod Octets
-pub mod Doubleword
 pub mod ErrorLaws
-pub mod Simulation
-pub mod Premise
-pub mod Comparison
-pub mod Corollaries
 pub mod Examples
 pub mod CallLaws
 pub mod AimLaws

@@ -3,20 +3,20 @@
 use Prim.Native.Nat.{ℕ}
 use mathlib.Core.Path.{_≡_}
 use mathlib.Core.Bool.{Bool, true, false, not}
-use mathlib.Core.List.{[], _∷_}
+use mathlib.Core.List.{List, [], _∷_}
 use mathlib.Core.Option.{Option, none, some}
 use Rattle.refusals.specs.Paper.{paper, Declined, refuse, _else_}
 use Rattle.refusals.specs.declared.Verdict.{Verdict}
 use Rattle.refusals.specs.declared.Verdict.the-variants as verdict
 use Rattle.banks.specs.declared.setup.Setup.{Setup}
+use Rattle.banks.specs.Setup.{setupOf}
 use Rattle.banks.specs.Judge.{ready}
+use Rattle.banks.specs.Map.{cellOf}
 use Rattle.ecc.specs.declared.Reading.{Reading}
 use Rattle.ecc.specs.declared.Reading.the-variants as reading
 use Rattle.registers.specs.declared.Registers.{Registers}
-use Rattle.memory.specs.declared.Kind.{Kind}
-use Rattle.memory.specs.declared.Answer.the-variants.{Done}
-use Rattle.memory.specs.declared.Called.{Called}
-use Rattle.memory.specs.Errors.{reported}
+use Rattle.memory.specs.declared.Answer.{Answer}
+use Rattle.memory.specs.Calls.{Effect, leaves, calledAt}
 use Rattle.memory.specs.declared.aim.Target.{Target}
 use Rattle.memory.specs.declared.aim.Target.the-variants.{Refused, Nowhere, Cell}
 
@@ -45,6 +45,8 @@ isCorrected reading.Clean = false
 isCorrected (reading.Corrected b) = true
 isCorrected reading.Uncorrectable = false
 
--- an accepted access's answer, with the record as its kind leaves it
-abbrev pub answered : Registers → Kind → ℕ → Called
-answered r k a = record { registers = reported k a r; answer = Done k }
+-- an access to cell k at the address a answered x and left these cells and this buffer, as the call says for every record in which the address
+-- has that cell and nothing, the judgement d of its arguments neither, refuses it before
+abbrev pub AtCell : Declined → ℕ → ℕ → Answer → List ℕ → List ℕ → (Registers → Effect) → Type 0
+AtCell d a k x cells buffer call =
+    (r : Registers) → early (setupOf r) d ≡ none → cellOf (setupOf r) a ≡ some k → leaves (calledAt r a x) cells buffer ≡ call r

@@ -111,6 +111,15 @@ paperAnswer (Done k) = given (k ∷ [])
 abbrev pub leaves : Called → List ℕ → List ℕ → Effect
 leaves x cells buffer = record { answer = paperAnswer (x .answer); registers = x .registers; cells = cells; buffer = buffer }
 
+-- the record after an answer at the address a: a refused call leaves it as it was
+abbrev pub recorded : Answer → ℕ → Registers → Registers
+recorded (Refused x) a r = r
+recorded (Done k) a r = reported k a r
+
+-- what a call that answered x at the address a returns
+abbrev pub calledAt : Registers → ℕ → Answer → Called
+calledAt r a x = record { registers = recorded x a r; answer = x }
+
 abbrev pub kindsOf : List Got → List Kind
 kindsOf [] = []
 kindsOf (g ∷ gs) = g .kind ∷ kindsOf gs

@@ -3,6 +3,4 @@ pub mod Spans
 pub mod Errors
 pub mod Cells
 pub mod Calls
-pub mod Flat
-pub mod Comparison
 pub mod Aim

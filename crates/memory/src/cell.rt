@@ -1,21 +1,19 @@
-// An access to a cell: refused where the cell is not wholly lent.
+// An access to a cell: refused where the cell is not wholly lent. The record is not looked at: what is said here holds for every record in
+// which the address has this cell and nothing refuses the access before.
 ghost use mathlib.Core.Path.{_≡_};
 ghost use mathlib.Core.Bool.{true, cond};
 ghost use mathlib.Core.List.{[]};
-ghost use mathlib.Core.Option.{none, some};
-ghost use Prim.Native.Nat.{_<_};
+ghost use mathlib.Core.Option.{none};
+ghost use Prim.Native.Nat.{_+_, _%_, _≤_, _<_};
 ghost use lib.ListN.{length};
-ghost use Rattle.banks.specs.Setup.{setupOf};
-ghost use Rattle.banks.specs.Map.{cellOf};
 ghost use Rattle.ecc.specs.Columns.{columns};
 ghost use Rattle.ecc.specs.Cell.{encode};
 ghost use Rattle.ecc.specs.Lending.{isLent, putCell};
 ghost use Rattle.memory.specs.Spans.{byCount, byBit};
 ghost use Rattle.memory.specs.Cells.{answerOf};
-ghost use Rattle.memory.specs.Aim.{early, isRight, isCorrected, answered};
-ghost use Rattle.memory.specs.Calls.{leaves, readCall, writeCall, flipCall, scrubCall};
+ghost use Rattle.memory.specs.Aim.{isRight, isCorrected, AtCell};
+ghost use Rattle.memory.specs.Calls.{readCall, writeCall, flipCall, scrubCall};
 use crate::Answer;
-use crate::Called;
 use crate::Kind;
 use crate::bytes::copy_out;
 use crate::bytes::merged;
@@ -24,7 +22,6 @@ use ecc::CellReading;
 use ecc::Reading;
 use ecc::columns::COLUMNS;
 use refusals::Refusal;
-use registers::Registers;
 
 fn kind_of(reading: Reading) -> Kind
     ensures { λ k. ⌜ k ≡ answerOf reading ⌝ }
@@ -57,16 +54,6 @@ fn is_corrected(reading: Reading) -> bool
     }
 }
 
-// The answer of an access, with its effect on the error registers.
-pub(crate) fn answer(registers: Registers, kind: Kind, address: u32) -> Called
-    ensures { λ x. ⌜ x ≡ answered registers kind address ⌝ }
-{
-    Called {
-        registers: crate::errors::report(registers, kind, address),
-        answer: Answer::Done(kind),
-    }
-}
-
 fn store_if(wanted: bool, cells: &mut [u8], k: usize, doubleword: [u8; 8])
     requires { ⌜ isLent (now cells) k ≡ true ⌝ }
     ensures { λ _. ⌜ now (cells .exit) ≡ cond wanted (putCell (now (cells .entry)) k (encode columns doubleword)) (now (cells .entry)) ⌝ }
@@ -76,119 +63,73 @@ fn store_if(wanted: bool, cells: &mut [u8], k: usize, doubleword: [u8; 8])
     }
 }
 
-pub(crate) fn read_cell(
-    registers: Registers,
-    cells: &[u8],
-    k: usize,
-    address: u32,
-    buffer: &mut [u8],
-) -> Called
-    requires { ⌜ (early (setupOf registers) (byCount address (length (now buffer))) ≡ none) × (cellOf (setupOf registers) address ≡ some k) ⌝ }
-    ensures { λ x. ⌜ leaves x (now (cells .entry)) (now (buffer .exit)) ≡ readCall columns registers (now (cells .entry)) address (now (buffer .entry)) ⌝ }
+pub(crate) fn read_cell(cells: &[u8], k: usize, address: u32, buffer: &mut [u8]) -> Answer
+    requires { ⌜ address % 8 + length (now buffer) ≤ 8 ⌝ }
+    ensures { λ x. ⌜ AtCell (byCount address (length (now (buffer .entry)))) address k x (now (cells .entry)) (now (buffer .exit)) (λ r. readCall columns r (now (cells .entry)) address (now (buffer .entry))) ⌝ }
 {
     let loaded = ecc::load_at(&COLUMNS, cells, k);
     let reading = loaded.reading;
     match reading {
-        CellReading::NotLent => Called {
-            registers: registers,
-            answer: Answer::Refused(Refusal::NotLent),
-        },
+        CellReading::NotLent => Answer::Refused(Refusal::NotLent),
         CellReading::Lent(r) => {
             let doubleword = loaded.bytes;
             copy_out(doubleword, (address % 8) as usize, buffer);
-            answer(registers, kind_of(r), address)
+            Answer::Done(kind_of(r))
         }
     }
 }
 
-pub(crate) fn write_whole(
-    registers: Registers,
-    cells: &mut [u8],
-    k: usize,
-    address: u32,
-    bytes: &[u8],
-) -> Called
-    requires { ⌜ (early (setupOf registers) (byCount address (length (now bytes))) ≡ none) × (cellOf (setupOf registers) address ≡ some k) × (length (now bytes) ≡ 8) ⌝ }
-    ensures { λ x. ⌜ leaves x (now (cells .exit)) [] ≡ writeCall columns registers (now (cells .entry)) address (now (bytes .entry)) ⌝ }
+pub(crate) fn write_whole(cells: &mut [u8], k: usize, address: u32, bytes: &[u8]) -> Answer
+    requires { ⌜ length (now bytes) ≡ 8 ⌝ }
+    ensures { λ x. ⌜ AtCell (byCount address (length (now (bytes .entry)))) address k x (now (cells .exit)) [] (λ r. writeCall columns r (now (cells .entry)) address (now (bytes .entry))) ⌝ }
 {
-    let change = ecc::store_at(&COLUMNS, cells, k, merged([0u8; 8], 0, bytes));
+    let doubleword = merged([0u8; 8], 0, bytes);
+    let change = ecc::store_at(&COLUMNS, cells, k, doubleword);
     match change {
-        CellChange::NotLent => Called {
-            registers: registers,
-            answer: Answer::Refused(Refusal::NotLent),
-        },
-        CellChange::Changed => Called {
-            registers: registers,
-            answer: Answer::Done(Kind::Stored),
-        },
+        CellChange::NotLent => Answer::Refused(Refusal::NotLent),
+        CellChange::Changed => Answer::Done(Kind::Stored),
     }
 }
 
 // A short write: the cell is put right, merged with the bytes and stored, unless it is uncorrectable.
-pub(crate) fn write_part(
-    registers: Registers,
-    cells: &mut [u8],
-    k: usize,
-    address: u32,
-    bytes: &[u8],
-) -> Called
-    requires { ⌜ (early (setupOf registers) (byCount address (length (now bytes))) ≡ none) × (cellOf (setupOf registers) address ≡ some k) × (length (now bytes) < 8) ⌝ }
-    ensures { λ x. ⌜ leaves x (now (cells .exit)) [] ≡ writeCall columns registers (now (cells .entry)) address (now (bytes .entry)) ⌝ }
+pub(crate) fn write_part(cells: &mut [u8], k: usize, address: u32, bytes: &[u8]) -> Answer
+    requires { ⌜ (address % 8 + length (now bytes) ≤ 8) × (length (now bytes) < 8) ⌝ }
+    ensures { λ x. ⌜ AtCell (byCount address (length (now (bytes .entry)))) address k x (now (cells .exit)) [] (λ r. writeCall columns r (now (cells .entry)) address (now (bytes .entry))) ⌝ }
 {
     let loaded = ecc::load_at(&COLUMNS, cells, k);
     let reading = loaded.reading;
     match reading {
-        CellReading::NotLent => Called {
-            registers: registers,
-            answer: Answer::Refused(Refusal::NotLent),
-        },
+        CellReading::NotLent => Answer::Refused(Refusal::NotLent),
         CellReading::Lent(r) => {
             let doubleword = loaded.bytes;
             let new = merged(doubleword, (address % 8) as usize, bytes);
             store_if(is_right(r), cells, k, new);
-            answer(registers, kind_of(r), address)
+            Answer::Done(kind_of(r))
         }
     }
 }
 
-pub(crate) fn flip_cell(
-    registers: Registers,
-    cells: &mut [u8],
-    k: usize,
-    address: u32,
-    bit: u8,
-) -> Called
-    requires { ⌜ (early (setupOf registers) (byBit bit) ≡ none) × (cellOf (setupOf registers) address ≡ some k) ⌝ }
-    ensures { λ x. ⌜ leaves x (now (cells .exit)) [] ≡ flipCall columns registers (now (cells .entry)) address bit ⌝ }
+pub(crate) fn flip_cell(cells: &mut [u8], k: usize, address: u32, bit: u8) -> Answer
+    ensures { λ x. ⌜ AtCell (byBit bit) address k x (now (cells .exit)) [] (λ r. flipCall columns r (now (cells .entry)) address bit) ⌝ }
 {
     let change = ecc::flip_at(cells, k, bit as usize);
     match change {
-        CellChange::NotLent => Called {
-            registers: registers,
-            answer: Answer::Refused(Refusal::NotLent),
-        },
-        CellChange::Changed => Called {
-            registers: registers,
-            answer: Answer::Done(Kind::Flipped),
-        },
+        CellChange::NotLent => Answer::Refused(Refusal::NotLent),
+        CellChange::Changed => Answer::Done(Kind::Flipped),
     }
 }
 
-pub(crate) fn scrub_cell(registers: Registers, cells: &mut [u8], k: usize, address: u32) -> Called
-    requires { ⌜ (early (setupOf registers) none ≡ none) × (cellOf (setupOf registers) address ≡ some k) ⌝ }
-    ensures { λ x. ⌜ leaves x (now (cells .exit)) [] ≡ scrubCall columns registers (now (cells .entry)) address ⌝ }
+pub(crate) fn scrub_cell(cells: &mut [u8], k: usize, address: u32) -> Answer
+    ensures { λ x. ⌜ AtCell none address k x (now (cells .exit)) [] (λ r. scrubCall columns r (now (cells .entry)) address) ⌝ }
 {
     let loaded = ecc::load_at(&COLUMNS, cells, k);
     let reading = loaded.reading;
     match reading {
-        CellReading::NotLent => Called {
-            registers: registers,
-            answer: Answer::Refused(Refusal::NotLent),
-        },
+        CellReading::NotLent => Answer::Refused(Refusal::NotLent),
         CellReading::Lent(r) => {
             let doubleword = loaded.bytes;
             store_if(is_corrected(r), cells, k, doubleword);
-            answer(registers, kind_of(r), address)
+            Answer::Done(kind_of(r))
         }
     }
 }

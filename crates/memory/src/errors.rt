@@ -70,7 +70,7 @@ fn count(r: Registers, address: u32) -> Registers
     s
 }
 
-pub(crate) fn report(r: Registers, kind: Kind, address: u32) -> Registers
+fn report(r: Registers, kind: Kind, address: u32) -> Registers
     ensures { λ s. ⌜ s ≡ reported kind address r ⌝ }
 {
     match kind {
@@ -90,5 +90,21 @@ pub(crate) fn report(r: Registers, kind: Kind, address: u32) -> Registers
             r
         }
         Kind::Flipped => r,
+    }
+}
+
+// The same in place; kinds that change nothing store nothing.
+pub(crate) fn report_in(registers: &mut [u8; 256], kind: Kind, address: u32)
+    ensures { λ _. ⌜ now (registers .exit) ≡ reported kind address (record { bytes = now (registers .entry) }) .bytes ⌝ }
+{
+    match kind {
+        Kind::Clean => {}
+        Kind::Stored => {}
+        Kind::Flipped => {}
+        _ => {
+            let after = report(Registers { bytes: *registers }, kind, address);
+            let bytes = after.bytes;
+            *registers = bytes;
+        }
     }
 }

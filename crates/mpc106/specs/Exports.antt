@@ -5,8 +5,7 @@ use mathlib.Core.Option.{Option, none, some}
 use Rattle.refusals.specs.Paper.{Declined, Outcome, refused, given}
 use Rattle.registers.specs.declared.Registers.{Registers}
 use Rattle.banks.specs.declared.Place.{Place}
-use Rattle.memory.specs.declared.Called.{Called}
-use Rattle.memory.specs.Calls.{Effect, paperAnswer}
+use Rattle.memory.specs.Calls.{Effect}
 use Rattle.mpc106.specs.Answers.{numbered, outcomeOf, acceptedCode, kindsCode, placeCode}
 
 -- "A record holds 256 bytes, one for each offset": the record in the lent bytes
@@ -38,10 +37,6 @@ addressIn (given a) before = a ∷ []
 -- the way back: the answer, and the address
 abbrev pub addressed : Outcome ℕ → List ℕ → ℕ × List ℕ
 addressed o before = (numbered acceptedCode o, addressIn o before)
-
--- what a memory call returned: the answer, and the record's bytes
-abbrev pub returned : Called → ℕ × List ℕ
-returned x = (numbered kindsCode (paperAnswer (x .answer)), x .registers .bytes)
 
 -- all that a memory call gives and leaves: the answer, the record's bytes, the cells, and the buffer, empty where none is lent
 pub record Left : Type 0 where

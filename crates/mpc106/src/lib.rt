@@ -11,7 +11,7 @@ ghost use Rattle.control.specs.Calls.{readAt, writeAt};
 ghost use Rattle.ecc.specs.Columns.{columns};
 ghost use Rattle.memory.specs.Calls.{readCall, writeCall, flipCall, scrubCall};
 ghost use Rattle.mpc106.specs.Answers.{numbered, outcomeOf, acceptedCode, byteCode, alikeCode};
-ghost use Rattle.mpc106.specs.Exports.{held, settled, placed, addressed, returned, leaving, left};
+ghost use Rattle.mpc106.specs.Exports.{held, settled, placed, addressed, leaving, left};
 
 mod answers;
 
@@ -22,7 +22,6 @@ use banks::Mapping;
 use banks::Origin;
 use banks::Row;
 use control::Reading;
-use memory::Called;
 use registers::Registers;
 
 #[no_mangle]
@@ -56,12 +55,7 @@ pub extern "C" fn mpc106_register_read(registers: &[u8; 256], offset: u8) -> u32
 pub extern "C" fn mpc106_register_write(registers: &mut [u8; 256], offset: u8, value: u8) -> u32
     ensures { λ n. ⌜ (n, now (registers .exit)) ≡ settled (writeAt (held (now (registers .entry))) offset value) ⌝ }
 {
-    let written = control::write(Registers { bytes: *registers }, offset, value);
-    let after = written.registers;
-    let bytes = after.bytes;
-    *registers = bytes;
-    let verdict = written.verdict;
-    answers::of_verdict(verdict)
+    answers::of_verdict(control::set(registers, offset, value))
 }
 
 #[no_mangle]
@@ -119,17 +113,6 @@ pub extern "C" fn mpc106_alike(first: &[u8; 256], second: &[u8; 256]) -> u32
     }
 }
 
-// Stores the record that a memory call returned, and gives its answer. A refused call returns the record as it was, so it is stored in any case.
-fn leave(registers: &mut [u8; 256], called: Called) -> u32
-    ensures { λ n. ⌜ (n, now (registers .exit)) ≡ returned called ⌝ }
-{
-    let after = called.registers;
-    let bytes = after.bytes;
-    *registers = bytes;
-    let answer = called.answer;
-    answers::of_answer(answer)
-}
-
 #[no_mangle]
 pub extern "C" fn mpc106_read(
     registers: &mut [u8; 256],
@@ -139,8 +122,9 @@ pub extern "C" fn mpc106_read(
 ) -> u32
     ensures { λ n. ⌜ leaving n (now (registers .exit)) (now (cells .entry)) (now (buffer .exit)) ≡ left (readCall columns (held (now (registers .entry))) (now (cells .entry)) address (now (buffer .entry))) ⌝ }
 {
-    let called = memory::read(Registers { bytes: *registers }, cells, address, buffer);
-    leave(registers, called)
+    let answer = memory::answer_read(Registers { bytes: *registers }, cells, address, buffer);
+    memory::settle(registers, answer, address);
+    answers::of_answer(answer)
 }
 
 #[no_mangle]
@@ -152,8 +136,9 @@ pub extern "C" fn mpc106_write(
 ) -> u32
     ensures { λ n. ⌜ leaving n (now (registers .exit)) (now (cells .exit)) [] ≡ left (writeCall columns (held (now (registers .entry))) (now (cells .entry)) address (now (bytes .entry))) ⌝ }
 {
-    let called = memory::write(Registers { bytes: *registers }, cells, address, bytes);
-    leave(registers, called)
+    let answer = memory::answer_write(Registers { bytes: *registers }, cells, address, bytes);
+    memory::settle(registers, answer, address);
+    answers::of_answer(answer)
 }
 
 #[no_mangle]
@@ -165,14 +150,16 @@ pub extern "C" fn mpc106_flip(
 ) -> u32
     ensures { λ n. ⌜ leaving n (now (registers .exit)) (now (cells .exit)) [] ≡ left (flipCall columns (held (now (registers .entry))) (now (cells .entry)) address bit) ⌝ }
 {
-    let called = memory::flip(Registers { bytes: *registers }, cells, address, bit);
-    leave(registers, called)
+    let answer = memory::answer_flip(Registers { bytes: *registers }, cells, address, bit);
+    memory::settle(registers, answer, address);
+    answers::of_answer(answer)
 }
 
 #[no_mangle]
 pub extern "C" fn mpc106_scrub(registers: &mut [u8; 256], cells: &mut [u8], address: u32) -> u32
     ensures { λ n. ⌜ leaving n (now (registers .exit)) (now (cells .exit)) [] ≡ left (scrubCall columns (held (now (registers .entry))) (now (cells .entry)) address) ⌝ }
 {
-    let called = memory::scrub(Registers { bytes: *registers }, cells, address);
-    leave(registers, called)
+    let answer = memory::answer_scrub(Registers { bytes: *registers }, cells, address);
+    memory::settle(registers, answer, address);
+    answers::of_answer(answer)
 }

@@ -1,61 +1,22 @@
-use mathlib.Core.Path.{sym}
-use Rattle.refusals.specs.Paper.{paper}
-use Rattle.ecc.specs.Columns.{columns}
-use Rattle.memory.proofs.AimLaws.{aimed}
-use Rattle.memory.proofs.CellCalls.{flip-refused, flip-missed}
 use borrow.Author.Needs.{needs}
 use Rattle.memory.proofs.flip.Statement.{statement}
 use Rattle.memory.proofs.flip.Tie as tie
+use Rattle.memory.proofs.flip.Reads as reads
+use Rattle.memory.proofs.flip.Lts as lts
+use Rattle.memory.proofs.access.answer_flip.Reads as answer-flip-reads
+use Rattle.memory.proofs.returned.Reads as returned-reads
 
-judge-bit-requires : tie.Need-judge-bit-requires
-judge-bit-requires c κs = search needs
+answer-flip-requires : tie.Need-answer-flip-requires
+answer-flip-requires c κs = search needs
 
-aim-requires : tie.Need-aim-requires
-aim-requires c κs = search needs
-
-enum-known-target : tie.Need-enum-known-target
-enum-known-target c = search needs
-
-enum-told : tie.Need-enum-told
-enum-told c = search needs
-
-enum-known-target-2 : tie.Need-enum-known-target-2
-enum-known-target-2 c = search needs
-
-flip-cell-requires : tie.Need-flip-cell-requires
-flip-cell-requires c κs =
-    let a = c .before .before .before .before .before .before .before .args in
-    aimed (a .registers) (a .address) (c .before .before .target2 .given .1) (c .before .before .before .before .before .judge-bit .ensures) (c .before .before .before .before .aim .ensures)
-
-returns : tie.Need-returns
-returns c =
-    let a = c .before .before .before .before .before .before .args in
-    let h = aimed (a .registers) (a .address) (c .before .target .given .1) (c .before .before .before .before .judge-bit .ensures) (c .before .before .before .aim .ensures) in
-    sym (flip-refused columns (a .registers) (a .cells .now) (a .address) (a .bit) (paper (c .before .target .given .0 .0)) h)
-
-returns-2 : tie.Need-returns-2
-returns-2 c =
-    let a = c .before .before .before .before .before .args in
-    let h = aimed (a .registers) (a .address) (c .enum-told .given .1) (c .before .before .before .judge-bit .ensures) (c .before .before .aim .ensures) in
-    sym (flip-missed columns (a .registers) (a .cells .now) (a .address) (a .bit) (h .0) (h .1))
+returned-requires : tie.Need-returned-requires
+returned-requires c κs = search needs
 
 same-length : tie.Need-same-length
 same-length c = search needs
 
-returns-3 : tie.Need-returns-3
-returns-3 c = search needs
+returns : tie.Need-returns
+returns c = simp (c .returned .ensures) (c .before .before .before .answer-flip .ensures)
 
 pub flip-spec : {M : Type 1} → statement M
-flip-spec =
-    tie.close
-    (tie.spec
-    judge-bit-requires
-    aim-requires
-    enum-known-target
-    enum-told
-    enum-known-target-2
-    flip-cell-requires
-    returns
-    returns-2
-    same-length
-    returns-3)
+flip-spec = tie.close (tie.spec answer-flip-requires returned-requires same-length returns)

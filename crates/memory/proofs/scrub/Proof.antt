@@ -1,61 +1,22 @@
-use mathlib.Core.Path.{refl, sym}
-use Rattle.refusals.specs.Paper.{paper}
-use Rattle.ecc.specs.Columns.{columns}
-use Rattle.memory.proofs.AimLaws.{aimed}
-use Rattle.memory.proofs.CellCalls.{scrub-refused, scrub-missed}
 use borrow.Author.Needs.{needs}
 use Rattle.memory.proofs.scrub.Statement.{statement}
 use Rattle.memory.proofs.scrub.Tie as tie
+use Rattle.memory.proofs.scrub.Reads as reads
+use Rattle.memory.proofs.scrub.Lts as lts
+use Rattle.memory.proofs.access.answer_scrub.Reads as answer-scrub-reads
+use Rattle.memory.proofs.returned.Reads as returned-reads
 
-aim-requires : tie.Need-aim-requires
-aim-requires c κs = search needs
+answer-scrub-requires : tie.Need-answer-scrub-requires
+answer-scrub-requires c κs = search needs
 
-enum-known-target : tie.Need-enum-known-target
-enum-known-target c = search needs
-
-enum-told : tie.Need-enum-told
-enum-told c = search needs
-
-answer-requires : tie.Need-answer-requires
-answer-requires c κs = search needs
-
-enum-known-target-2 : tie.Need-enum-known-target-2
-enum-known-target-2 c = search needs
-
-scrub-cell-requires : tie.Need-scrub-cell-requires
-scrub-cell-requires c κs =
-    let a = c .before .before .before .before .before .before .args in
-    aimed (a .registers) (a .address) (c .before .before .target2 .given .1) refl (c .before .before .before .before .aim .ensures)
-
-returns : tie.Need-returns
-returns c =
-    let a = c .before .before .before .before .before .args in
-    let h = aimed (a .registers) (a .address) (c .before .target .given .1) refl (c .before .before .before .aim .ensures) in
-    sym (scrub-refused columns (a .registers) (a .cells .now) (a .address) (paper (c .before .target .given .0 .0)) h)
-
-returns-2 : tie.Need-returns-2
-returns-2 c =
-    let a = c .before .before .before .before .before .args in
-    let h = aimed (a .registers) (a .address) (c .before .enum-told .given .1) refl (c .before .before .before .aim .ensures) in
-    simp (c .answer .ensures) (sym (scrub-missed columns (a .registers) (a .cells .now) (a .address) (h .0) (h .1)))
+returned-requires : tie.Need-returned-requires
+returned-requires c κs = search needs
 
 same-length : tie.Need-same-length
 same-length c = search needs
 
-returns-3 : tie.Need-returns-3
-returns-3 c = search needs
+returns : tie.Need-returns
+returns c = simp (c .returned .ensures) (c .before .before .before .answer-scrub .ensures)
 
 pub scrub-spec : {M : Type 1} → statement M
-scrub-spec =
-    tie.close
-    (tie.spec
-    aim-requires
-    enum-known-target
-    enum-told
-    answer-requires
-    enum-known-target-2
-    scrub-cell-requires
-    returns
-    returns-2
-    same-length
-    returns-3)
+scrub-spec = tie.close (tie.spec answer-scrub-requires returned-requires same-length returns)

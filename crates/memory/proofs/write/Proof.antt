@@ -1,83 +1,22 @@
-use mathlib.Core.Path.{sym}
-use native.Mathlib.Omega.{arith}
-use Rattle.refusals.specs.Paper.{paper}
-use Rattle.ecc.specs.Columns.{columns}
-use lib.ListN.{length}
-use Rattle.memory.proofs.AimLaws.{aimed, early-none, count-fits}
-use Rattle.memory.proofs.CellCalls.{write-refused, write-missed}
 use borrow.Author.Needs.{needs}
 use Rattle.memory.proofs.write.Statement.{statement}
 use Rattle.memory.proofs.write.Tie as tie
+use Rattle.memory.proofs.write.Reads as reads
+use Rattle.memory.proofs.write.Lts as lts
+use Rattle.memory.proofs.access.answer_write.Reads as answer-write-reads
+use Rattle.memory.proofs.returned.Reads as returned-reads
 
-judge-count-requires : tie.Need-judge-count-requires
-judge-count-requires c κs = search needs
+answer-write-requires : tie.Need-answer-write-requires
+answer-write-requires c κs = search needs
 
-aim-requires : tie.Need-aim-requires
-aim-requires c κs = search needs
-
-enum-known-target : tie.Need-enum-known-target
-enum-known-target c = search needs
-
-enum-told : tie.Need-enum-told
-enum-told c = search needs
-
-answer-requires : tie.Need-answer-requires
-answer-requires c κs = search needs
-
-enum-known-target-2 : tie.Need-enum-known-target-2
-enum-known-target-2 c = search needs
-
-write-whole-requires : tie.Need-write-whole-requires
-write-whole-requires c κs =
-    let a = c .before .before .before .before .before .before .before .before .before .args in
-    let h = aimed (a .registers) (a .address) (c .before .before .before .target2 .given .1) (c .before .before .before .before .before .before .judge-count .ensures) (c .before .before .before .before .before .aim .ensures) in
-    (h .0, h .1, c .before .if1 .taken)
+returned-requires : tie.Need-returned-requires
+returned-requires c κs = search needs
 
 same-length : tie.Need-same-length
 same-length c = search needs
 
 returns : tie.Need-returns
-returns c = search needs
-
-write-part-requires : tie.Need-write-part-requires
-write-part-requires c κs =
-    let a = c .before .before .before .before .before .before .before .before .before .args in
-    let h = aimed (a .registers) (a .address) (c .before .before .before .target2 .given .1) (c .before .before .before .before .before .before .judge-count .ensures) (c .before .before .before .before .before .aim .ensures) in
-    (h .0, h .1, omega (arith, c .before .if1 .left, count-fits (a .address) (length (a .bytes .now)) (early-none _ _ (h .0) .none-yet)))
-
-returns-2 : tie.Need-returns-2
-returns-2 c =
-    let a = c .before .before .before .before .before .before .before .args in
-    let h = aimed (a .registers) (a .address) (c .before .target .given .1) (c .before .before .before .before .judge-count .ensures) (c .before .before .before .aim .ensures) in
-    sym (write-refused columns (a .registers) (a .cells .now) (a .address) (a .bytes .now) (paper (c .before .target .given .0 .0)) h)
-
-returns-3 : tie.Need-returns-3
-returns-3 c =
-    let a = c .before .before .before .before .before .before .before .args in
-    let h = aimed (a .registers) (a .address) (c .before .enum-told .given .1) (c .before .before .before .before .judge-count .ensures) (c .before .before .before .aim .ensures) in
-    simp (c .answer .ensures) (sym (write-missed columns (a .registers) (a .cells .now) (a .address) (a .bytes .now) (h .0) (h .1)))
-
-same-length-2 : tie.Need-same-length-2
-same-length-2 c = search needs
-
-returns-4 : tie.Need-returns-4
-returns-4 c = search needs
+returns c = simp (c .returned .ensures) (c .before .before .before .answer-write .ensures)
 
 pub write-spec : {M : Type 1} → statement M
-write-spec =
-    tie.close
-    (tie.spec
-    judge-count-requires
-    aim-requires
-    enum-known-target
-    enum-told
-    answer-requires
-    enum-known-target-2
-    write-whole-requires
-    same-length
-    returns
-    write-part-requires
-    returns-2
-    returns-3
-    same-length-2
-    returns-4)
+write-spec = tie.close (tie.spec answer-write-requires returned-requires same-length returns)

@@ -2,18 +2,28 @@ use Rattle.mpc106.proofs.MemoryLaws.{left-of}
 use borrow.Author.Needs.{needs}
 use Rattle.mpc106.proofs.mpc106_flip.Statement.{statement}
 use Rattle.mpc106.proofs.mpc106_flip.Tie as tie
+use Rattle.mpc106.proofs.mpc106_flip.Reads as reads
+use Rattle.mpc106.proofs.mpc106_flip.Lts as lts
+use Rattle.memory.proofs.answer_flip.Reads as answer-flip-reads
+use Rattle.memory.proofs.settle.Reads as settle-reads
+use Rattle.mpc106.proofs.answers.of_answer.Reads as of-answer-reads
 
-flip-requires : tie.Need-flip-requires
-flip-requires c κs = search needs
+answer-flip-requires : tie.Need-answer-flip-requires
+answer-flip-requires c κs = search needs
 
-leave-requires : tie.Need-leave-requires
-leave-requires c κs = search needs
+settle-requires : tie.Need-settle-requires
+settle-requires c κs = search needs
+
+of-answer-requires : tie.Need-of-answer-requires
+of-answer-requires c κs = search needs
 
 same-length : tie.Need-same-length
 same-length c = search needs
 
 returns : tie.Need-returns
-returns c = left-of (c .before .before .before .before .flip .result) (c .leave .ensures) (c .before .before .before .before .flip .ensures)
+returns c = let d = c .before .before .before .before .before .answer-flip in left-of _ _ (d .result) (d .ensures) (c .before .settle .ensures) (c .of-answer .ensures)
 
 pub mpc106-flip-spec : {M : Type 1} → statement M
-mpc106-flip-spec = tie.close (tie.spec flip-requires leave-requires same-length returns)
+mpc106-flip-spec =
+    tie.close
+    (tie.spec answer-flip-requires settle-requires of-answer-requires same-length returns)

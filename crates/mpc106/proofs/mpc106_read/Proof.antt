@@ -2,18 +2,28 @@ use Rattle.mpc106.proofs.MemoryLaws.{left-of}
 use borrow.Author.Needs.{needs}
 use Rattle.mpc106.proofs.mpc106_read.Statement.{statement}
 use Rattle.mpc106.proofs.mpc106_read.Tie as tie
+use Rattle.mpc106.proofs.mpc106_read.Reads as reads
+use Rattle.mpc106.proofs.mpc106_read.Lts as lts
+use Rattle.memory.proofs.answer_read.Reads as answer-read-reads
+use Rattle.memory.proofs.settle.Reads as settle-reads
+use Rattle.mpc106.proofs.answers.of_answer.Reads as of-answer-reads
 
-read-requires : tie.Need-read-requires
-read-requires c κs = search needs
+answer-read-requires : tie.Need-answer-read-requires
+answer-read-requires c κs = search needs
 
-leave-requires : tie.Need-leave-requires
-leave-requires c κs = search needs
+settle-requires : tie.Need-settle-requires
+settle-requires c κs = search needs
+
+of-answer-requires : tie.Need-of-answer-requires
+of-answer-requires c κs = search needs
 
 same-length : tie.Need-same-length
 same-length c = search needs
 
 returns : tie.Need-returns
-returns c = left-of (c .before .before .before .before .read .result) (c .leave .ensures) (c .before .before .before .before .read .ensures)
+returns c = let d = c .before .before .before .before .before .answer-read in left-of _ _ (d .result) (d .ensures) (c .before .settle .ensures) (c .of-answer .ensures)
 
 pub mpc106-read-spec : {M : Type 1} → statement M
-mpc106-read-spec = tie.close (tie.spec read-requires leave-requires same-length returns)
+mpc106-read-spec =
+    tie.close
+    (tie.spec answer-read-requires settle-requires of-answer-requires same-length returns)

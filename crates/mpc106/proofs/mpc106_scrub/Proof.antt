@@ -2,18 +2,28 @@ use Rattle.mpc106.proofs.MemoryLaws.{left-of}
 use borrow.Author.Needs.{needs}
 use Rattle.mpc106.proofs.mpc106_scrub.Statement.{statement}
 use Rattle.mpc106.proofs.mpc106_scrub.Tie as tie
+use Rattle.mpc106.proofs.mpc106_scrub.Reads as reads
+use Rattle.mpc106.proofs.mpc106_scrub.Lts as lts
+use Rattle.memory.proofs.answer_scrub.Reads as answer-scrub-reads
+use Rattle.memory.proofs.settle.Reads as settle-reads
+use Rattle.mpc106.proofs.answers.of_answer.Reads as of-answer-reads
 
-scrub-requires : tie.Need-scrub-requires
-scrub-requires c κs = search needs
+answer-scrub-requires : tie.Need-answer-scrub-requires
+answer-scrub-requires c κs = search needs
 
-leave-requires : tie.Need-leave-requires
-leave-requires c κs = search needs
+settle-requires : tie.Need-settle-requires
+settle-requires c κs = search needs
+
+of-answer-requires : tie.Need-of-answer-requires
+of-answer-requires c κs = search needs
 
 same-length : tie.Need-same-length
 same-length c = search needs
 
 returns : tie.Need-returns
-returns c = left-of (c .before .before .before .before .scrub .result) (c .leave .ensures) (c .before .before .before .before .scrub .ensures)
+returns c = let d = c .before .before .before .before .before .answer-scrub in left-of _ _ (d .result) (d .ensures) (c .before .settle .ensures) (c .of-answer .ensures)
 
 pub mpc106-scrub-spec : {M : Type 1} → statement M
-mpc106-scrub-spec = tie.close (tie.spec scrub-requires leave-requires same-length returns)
+mpc106-scrub-spec =
+    tie.close
+    (tie.spec answer-scrub-requires settle-requires of-answer-requires same-length returns)

@@ -2,18 +2,28 @@ use Rattle.mpc106.proofs.MemoryLaws.{left-of}
 use borrow.Author.Needs.{needs}
 use Rattle.mpc106.proofs.mpc106_write.Statement.{statement}
 use Rattle.mpc106.proofs.mpc106_write.Tie as tie
+use Rattle.mpc106.proofs.mpc106_write.Reads as reads
+use Rattle.mpc106.proofs.mpc106_write.Lts as lts
+use Rattle.memory.proofs.answer_write.Reads as answer-write-reads
+use Rattle.memory.proofs.settle.Reads as settle-reads
+use Rattle.mpc106.proofs.answers.of_answer.Reads as of-answer-reads
 
-write-requires : tie.Need-write-requires
-write-requires c κs = search needs
+answer-write-requires : tie.Need-answer-write-requires
+answer-write-requires c κs = search needs
 
-leave-requires : tie.Need-leave-requires
-leave-requires c κs = search needs
+settle-requires : tie.Need-settle-requires
+settle-requires c κs = search needs
+
+of-answer-requires : tie.Need-of-answer-requires
+of-answer-requires c κs = search needs
 
 same-length : tie.Need-same-length
 same-length c = search needs
 
 returns : tie.Need-returns
-returns c = left-of (c .before .before .before .before .write .result) (c .leave .ensures) (c .before .before .before .before .write .ensures)
+returns c = let d = c .before .before .before .before .before .answer-write in left-of _ _ (d .result) (d .ensures) (c .before .settle .ensures) (c .of-answer .ensures)
 
 pub mpc106-write-spec : {M : Type 1} → statement M
-mpc106-write-spec = tie.close (tie.spec write-requires leave-requires same-length returns)
+mpc106-write-spec =
+    tie.close
+    (tie.spec answer-write-requires settle-requires of-answer-requires same-length returns)

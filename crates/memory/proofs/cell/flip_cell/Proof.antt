@@ -1,3 +1,4 @@
+use Rattle.memory.specs.Errors.{reported}
 use mathlib.Core.Path.{sym}
 use Rattle.ecc.specs.Columns.{columns}
 use Rattle.ecc.specs.Lending.{flipAt}
@@ -6,6 +7,9 @@ use Rattle.memory.proofs.CellCalls.{flip-unlent, flip-done}
 use borrow.Author.Needs.{needs}
 use Rattle.memory.proofs.cell.flip_cell.Statement.{statement}
 use Rattle.memory.proofs.cell.flip_cell.Tie as tie
+use Rattle.memory.proofs.cell.flip_cell.Reads as reads
+use Rattle.memory.proofs.cell.flip_cell.Lts as lts
+use Rattle.ecc.proofs.flip_at.Reads as flip-at-reads
 
 flip-at-requires : tie.Need-flip-at-requires
 flip-at-requires c κs = search needs
@@ -21,24 +25,22 @@ same-length c = search needs
 
 returns : tie.Need-returns
 unfolding flipAt
-returns c =
+returns c r e i =
     let a = c .before .before .before .before .before .before .before .args in
-    let p = c .before .before .before .before .before .before .before .pre in
     let d = c .before .before .before .before .flip-at in
     let u = change-unlent (a .cells .now) (a .k) (d .result) (d .ensures .0) (c .enum-told .given .1) in
-    simp (d .ensures .1, u) (sym (flip-unlent columns (a .registers) (a .cells .now) (a .address) (a .bit) (p .0) (a .k) (p .1) u))
+    simp (d .ensures .1, u) (sym (flip-unlent columns r (a .cells .now) (a .address) (a .bit) e (a .k) i u))
 
 same-length-2 : tie.Need-same-length-2
 same-length-2 c = search needs
 
 returns-2 : tie.Need-returns-2
-unfolding flipAt
-returns-2 c =
+unfolding flipAt reported
+returns-2 c r e i =
     let a = c .before .before .before .before .before .before .before .args in
-    let p = c .before .before .before .before .before .before .before .pre in
     let d = c .before .before .before .before .flip-at in
     let u = change-lent (a .cells .now) (a .k) (d .result) (d .ensures .0) (c .enum-told2 .given .1) in
-    simp (d .ensures .1, u) (sym (flip-done columns (a .registers) (a .cells .now) (a .address) (a .bit) (p .0) (a .k) (p .1) u))
+    simp (d .ensures .1, u) (sym (flip-done columns r (a .cells .now) (a .address) (a .bit) e (a .k) i u))
 
 pub flip-cell-spec : {M : Type 1} → statement M
 flip-cell-spec =

@@ -1,11 +1,15 @@
 use mathlib.Core.Path.{sym}
 use Rattle.ecc.specs.Columns.{columns}
-use Rattle.memory.proofs.AimLaws.{early-none, count-fits}
 use Rattle.memory.proofs.AccessLaws.{load-unlent, load-lent}
 use Rattle.memory.proofs.CellCalls.{read-unlent, read-done}
 use borrow.Author.Needs.{needs}
 use Rattle.memory.proofs.cell.read_cell.Statement.{statement}
 use Rattle.memory.proofs.cell.read_cell.Tie as tie
+use Rattle.memory.proofs.cell.read_cell.Reads as reads
+use Rattle.memory.proofs.cell.read_cell.Lts as lts
+use Rattle.ecc.proofs.load_at.Reads as load-at-reads
+use Rattle.memory.proofs.bytes.copy_out.Reads as copy-out-reads
+use Rattle.memory.proofs.cell.kind_of.Reads as kind-of-reads
 
 load-at-requires : tie.Need-load-at-requires
 load-at-requires c κs = search needs
@@ -20,32 +24,27 @@ cast-copy-out : tie.Need-cast-copy-out
 cast-copy-out c = search needs
 
 copy-out-requires : tie.Need-copy-out-requires
-copy-out-requires c κs = count-fits _ _ (early-none _ _ (c .before .before .before .before .before .before .before .before .before .pre .0) .none-yet)
+copy-out-requires c κs = search needs
 
 kind-of-requires : tie.Need-kind-of-requires
 kind-of-requires c κs = search needs
 
-answer-requires : tie.Need-answer-requires
-answer-requires c κs = search needs
-
 returns : tie.Need-returns
-returns c =
+returns c r e i =
     let a = c .before .before .before .before .before .before .args in
-    let p = c .before .before .before .before .before .before .pre in
     let d = c .before .before .load-at in
-    sym (read-unlent columns (a .registers) (a .cells .now) (a .address) (a .buffer .now) (p .0) (a .k) (p .1) (load-unlent columns (a .cells .now) (a .k) (d .result) (d .ensures) (c .enum-told .given .1)))
+    sym (read-unlent columns r (a .cells .now) (a .address) (a .buffer .now) e (a .k) i (load-unlent columns (a .cells .now) (a .k) (d .result) (d .ensures) (c .enum-told .given .1)))
 
 same-length : tie.Need-same-length
 same-length c = search needs
 
 returns-2 : tie.Need-returns-2
-returns-2 c =
-    let a = c .before .before .before .before .before .before .before .before .before .before .before .before .before .before .args in
-    let p = c .before .before .before .before .before .before .before .before .before .before .before .before .before .before .pre in
-    let d = c .before .before .before .before .before .before .before .before .before .before .load-at in
-    let g = c .before .before .before .before .before .before .before .before .reading .given in
+returns-2 c r e i =
+    let a = c .before .before .before .before .before .before .before .before .before .before .before .before .before .args in
+    let d = c .before .before .before .before .before .before .before .before .before .load-at in
+    let g = c .before .before .before .before .before .before .before .reading .given in
     let h = load-lent columns (a .cells .now) (a .k) (d .result) (d .ensures) (g .0 .0) (g .1) in
-    simp (c .answer .ensures, c .before .kind-of .ensures, c .before .before .before .before .copy-out .ensures) (sym (read-done columns (a .registers) (a .cells .now) (a .address) (a .buffer .now) (p .0) (a .k) (d .result) (d .ensures) (g .0 .0) (p .1) h))
+    simp (c .kind-of .ensures, c .before .before .before .copy-out .ensures) (sym (read-done columns r (a .cells .now) (a .address) (a .buffer .now) e (a .k) (d .result) (d .ensures) (g .0 .0) i h))
 
 pub read-cell-spec : {M : Type 1} → statement M
 read-cell-spec =
@@ -57,7 +56,6 @@ read-cell-spec =
     cast-copy-out
     copy-out-requires
     kind-of-requires
-    answer-requires
     returns
     same-length
     returns-2)

@@ -5,6 +5,12 @@ use Rattle.memory.proofs.CellCalls.{scrub-unlent, scrub-done}
 use borrow.Author.Needs.{needs}
 use Rattle.memory.proofs.cell.scrub_cell.Statement.{statement}
 use Rattle.memory.proofs.cell.scrub_cell.Tie as tie
+use Rattle.memory.proofs.cell.scrub_cell.Reads as reads
+use Rattle.memory.proofs.cell.scrub_cell.Lts as lts
+use Rattle.ecc.proofs.load_at.Reads as load-at-reads
+use Rattle.memory.proofs.cell.is_corrected.Reads as is-corrected-reads
+use Rattle.memory.proofs.cell.kind_of.Reads as kind-of-reads
+use Rattle.memory.proofs.cell.store_if.Reads as store-if-reads
 
 load-at-requires : tie.Need-load-at-requires
 load-at-requires c κs = search needs
@@ -28,30 +34,25 @@ store-if-requires c κs =
 kind-of-requires : tie.Need-kind-of-requires
 kind-of-requires c κs = search needs
 
-answer-requires : tie.Need-answer-requires
-answer-requires c κs = search needs
-
 same-length : tie.Need-same-length
 same-length c = search needs
 
 returns : tie.Need-returns
-returns c =
+returns c r e i =
     let a = c .before .before .before .before .before .before .args in
-    let p = c .before .before .before .before .before .before .pre in
     let d = c .before .before .load-at in
-    sym (scrub-unlent columns (a .registers) (a .cells .now) (a .address) (p .0) (a .k) (p .1) (load-unlent columns (a .cells .now) (a .k) (d .result) (d .ensures) (c .enum-told .given .1)))
+    sym (scrub-unlent columns r (a .cells .now) (a .address) e (a .k) i (load-unlent columns (a .cells .now) (a .k) (d .result) (d .ensures) (c .enum-told .given .1)))
 
 same-length-2 : tie.Need-same-length-2
 same-length-2 c = search needs
 
 returns-2 : tie.Need-returns-2
-returns-2 c =
-    let a = c .before .before .before .before .before .before .before .before .before .before .before .before .before .before .before .args in
-    let p = c .before .before .before .before .before .before .before .before .before .before .before .before .before .before .before .pre in
-    let d = c .before .before .before .before .before .before .before .before .before .before .before .load-at in
-    let g = c .before .before .before .before .before .before .before .before .before .reading .given in
+returns-2 c r e i =
+    let a = c .before .before .before .before .before .before .before .before .before .before .before .before .before .before .args in
+    let d = c .before .before .before .before .before .before .before .before .before .before .load-at in
+    let g = c .before .before .before .before .before .before .before .before .reading .given in
     let h = load-lent columns (a .cells .now) (a .k) (d .result) (d .ensures) (g .0 .0) (g .1) in
-    simp (c .answer .ensures, c .before .kind-of .ensures, c .before .before .before .before .store-if .ensures, c .before .before .before .before .before .before .is-corrected .ensures) (sym (scrub-done columns (a .registers) (a .cells .now) (a .address) (p .0) (a .k) (d .result) (d .ensures) (g .0 .0) (p .1) h))
+    simp (c .kind-of .ensures, c .before .before .before .store-if .ensures, c .before .before .before .before .before .is-corrected .ensures) (sym (scrub-done columns r (a .cells .now) (a .address) e (a .k) (d .result) (d .ensures) (g .0 .0) i h))
 
 pub scrub-cell-spec : {M : Type 1} → statement M
 scrub-cell-spec =
@@ -63,7 +64,6 @@ scrub-cell-spec =
     is-corrected-requires
     store-if-requires
     kind-of-requires
-    answer-requires
     same-length
     returns
     same-length-2

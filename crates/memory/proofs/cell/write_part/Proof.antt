@@ -1,11 +1,17 @@
 use mathlib.Core.Path.{sym}
 use Rattle.ecc.specs.Columns.{columns}
-use Rattle.memory.proofs.AimLaws.{early-none, count-fits}
 use Rattle.memory.proofs.AccessLaws.{load-unlent, load-lent}
 use Rattle.memory.proofs.CellCalls.{write-unlent, write-part}
 use borrow.Author.Needs.{needs}
 use Rattle.memory.proofs.cell.write_part.Statement.{statement}
 use Rattle.memory.proofs.cell.write_part.Tie as tie
+use Rattle.memory.proofs.cell.write_part.Reads as reads
+use Rattle.memory.proofs.cell.write_part.Lts as lts
+use Rattle.ecc.proofs.load_at.Reads as load-at-reads
+use Rattle.memory.proofs.bytes.merged.Reads as merged-reads
+use Rattle.memory.proofs.cell.is_right.Reads as is-right-reads
+use Rattle.memory.proofs.cell.kind_of.Reads as kind-of-reads
+use Rattle.memory.proofs.cell.store_if.Reads as store-if-reads
 
 load-at-requires : tie.Need-load-at-requires
 load-at-requires c κs = search needs
@@ -20,7 +26,7 @@ cast-merged : tie.Need-cast-merged
 cast-merged c = search needs
 
 merged-requires : tie.Need-merged-requires
-merged-requires c κs = count-fits _ _ (early-none _ _ (c .before .before .before .before .before .before .before .before .before .pre .0) .none-yet)
+merged-requires c κs = search needs
 
 is-right-requires : tie.Need-is-right-requires
 is-right-requires c κs = search needs
@@ -35,30 +41,26 @@ store-if-requires c κs =
 kind-of-requires : tie.Need-kind-of-requires
 kind-of-requires c κs = search needs
 
-answer-requires : tie.Need-answer-requires
-answer-requires c κs = search needs
-
 same-length : tie.Need-same-length
 same-length c = search needs
 
 returns : tie.Need-returns
-returns c =
+returns c r e i =
     let a = c .before .before .before .before .before .before .before .args in
-    let p = c .before .before .before .before .before .before .before .pre in
     let d = c .before .before .load-at in
-    sym (write-unlent columns (a .registers) (a .cells .now) (a .address) (a .bytes .now) (p .0) (a .k) (p .1) (load-unlent columns (a .cells .now) (a .k) (d .result) (d .ensures) (c .enum-told .given .1)))
+    sym (write-unlent columns r (a .cells .now) (a .address) (a .bytes .now) e (a .k) i (load-unlent columns (a .cells .now) (a .k) (d .result) (d .ensures) (c .enum-told .given .1)))
 
 same-length-2 : tie.Need-same-length-2
 same-length-2 c = search needs
 
 returns-2 : tie.Need-returns-2
-returns-2 c =
-    let a = c .before .before .before .before .before .before .before .before .before .before .before .before .before .before .before .before .before .args in
-    let p = c .before .before .before .before .before .before .before .before .before .before .before .before .before .before .before .before .before .pre in
-    let d = c .before .before .before .before .before .before .before .before .before .before .before .before .load-at in
-    let g = c .before .before .before .before .before .before .before .before .before .before .reading .given in
+returns-2 c r e i =
+    let a = c .before .before .before .before .before .before .before .before .before .before .before .before .before .before .before .before .args in
+    let p = c .before .before .before .before .before .before .before .before .before .before .before .before .before .before .before .before .pre in
+    let d = c .before .before .before .before .before .before .before .before .before .before .before .load-at in
+    let g = c .before .before .before .before .before .before .before .before .before .reading .given in
     let h = load-lent columns (a .cells .now) (a .k) (d .result) (d .ensures) (g .0 .0) (g .1) in
-    simp (c .answer .ensures, c .before .kind-of .ensures, c .before .before .before .before .store-if .ensures, c .before .before .before .before .before .before .is-right .ensures, c .before .before .before .before .before .before .before .merged .ensures) (sym (write-part columns (a .registers) (a .cells .now) (a .address) (a .bytes .now) (p .0) (a .k) (d .result) (d .ensures) (g .0 .0) (p .1) h (p .2)))
+    simp (c .kind-of .ensures, c .before .before .before .store-if .ensures, c .before .before .before .before .before .is-right .ensures, c .before .before .before .before .before .before .merged .ensures) (sym (write-part columns r (a .cells .now) (a .address) (a .bytes .now) e (a .k) (d .result) (d .ensures) (g .0 .0) i h (p .1)))
 
 pub write-part-spec : {M : Type 1} → statement M
 write-part-spec =
@@ -72,7 +74,6 @@ write-part-spec =
     is-right-requires
     store-if-requires
     kind-of-requires
-    answer-requires
     same-length
     returns
     same-length-2

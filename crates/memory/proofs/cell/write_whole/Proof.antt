@@ -1,3 +1,4 @@
+use Rattle.memory.specs.Errors.{reported}
 use mathlib.Core.Path.{_≡_, refl, sym, _∙_}
 use Rattle.ecc.specs.Columns.{columns}
 use Rattle.ecc.specs.Lending.{storeAt}
@@ -6,6 +7,10 @@ use Rattle.memory.proofs.CellCalls.{merge-whole, write-unlent, write-wh
 use borrow.Author.Needs.{needs}
 use Rattle.memory.proofs.cell.write_whole.Statement.{statement}
 use Rattle.memory.proofs.cell.write_whole.Tie as tie
+use Rattle.memory.proofs.cell.write_whole.Reads as reads
+use Rattle.memory.proofs.cell.write_whole.Lts as lts
+use Rattle.ecc.proofs.store_at.Reads as store-at-reads
+use Rattle.memory.proofs.bytes.merged.Reads as merged-reads
 
 merged-requires : tie.Need-merged-requires
 merged-requires c κs = search needs
@@ -24,25 +29,24 @@ same-length c = search needs
 
 returns : tie.Need-returns
 unfolding storeAt
-returns c =
+returns c r e i =
     let a = c .before .before .before .before .before .before .before .before .before .before .args in
-    let p = c .before .before .before .before .before .before .before .before .before .before .pre in
     let d = c .before .before .before .before .store-at in
     let u = change-unlent (a .cells .now) (a .k) (d .result) (d .ensures .0) (c .enum-told .given .1) in
-    simp (d .ensures .1, u) (sym (write-unlent columns (a .registers) (a .cells .now) (a .address) (a .bytes .now) (p .0) (a .k) (p .1) u))
+    simp (d .ensures .1, u) (sym (write-unlent columns r (a .cells .now) (a .address) (a .bytes .now) e (a .k) i u))
 
 same-length-2 : tie.Need-same-length-2
 same-length-2 c = search needs
 
 returns-2 : tie.Need-returns-2
-unfolding storeAt
-returns-2 c =
+unfolding storeAt reported
+returns-2 c r e i =
     let a = c .before .before .before .before .before .before .before .before .before .before .args in
     let p = c .before .before .before .before .before .before .before .before .before .before .pre in
     let d = c .before .before .before .before .store-at in
     let u = change-lent (a .cells .now) (a .k) (d .result) (d .ensures .0) (c .enum-told2 .given .1) in
-    let m : c .before .before .before .before .before .merged .result ≡ a .bytes .now = c .before .before .before .before .before .merged .ensures ∙ merge-whole (a .bytes .now) _ (p .2) refl in
-    simp (d .ensures .1, u, m) (sym (write-whole columns (a .registers) (a .cells .now) (a .address) (a .bytes .now) (p .0) (a .k) (p .1) u (p .2)))
+    let m : c .before .before .before .before .before .before .before .merged .result ≡ a .bytes .now = c .before .before .before .before .before .before .before .merged .ensures ∙ merge-whole (a .bytes .now) _ p refl in
+    simp (d .ensures .1, u, m) (sym (write-whole columns r (a .cells .now) (a .address) (a .bytes .now) e (a .k) i u p))
 
 pub write-whole-spec : {M : Type 1} → statement M
 write-whole-spec =

@@ -1,3 +1,4 @@
+use native.Mathlib.Omega.{arith}
 use borrow.Author.Tests.{lt-ltb, le-ltb}
 use Rattle.memory.specs.Errors.{counted, rose}
 use borrow.Author.Needs.{needs}
@@ -9,7 +10,7 @@ byte-requires c κs = search needs
 
 returns : tie.Need-returns
 unfolding counted
-returns c = simp (← c .before .byte .ensures, le-ltb _ _ (c .if1 .taken))
+returns c = simp (← c .before .byte .ensures, le-ltb (c .before .byte .result) 255 (omega (arith, c .if1 .taken)))
 
 add-with-byte : tie.Need-add-with-byte
 add-with-byte c = search needs

@@ -12,11 +12,11 @@ use borrow.Author.Tests.{eqb-true, eqb-false, eq-eqb}
 use Rattle.ranges.proofs.Bools.{and-right, or-left, or-right}
 use Rattle.ranges.proofs.RangeLaws.{byCases, contra}
 use Rattle.refusals.specs.Paper.{Declined}
 use Rattle.memory.specs.Access.{Access, read, write, flip, scrub, addressOf, parts, Call, memory, readRegister, writeRegister}
 use Rattle.memory.specs.Spans.{Spans, turnedAway, missed}
-use Rattle.memory.specs.Flat.{Flat, marked, flatHeld, flatAccess, blank}
-use Rattle.memory.specs.Comparison.{ifAccepted, acceptedOf, flips, renews, anyOf, flippedAt, renewedAt, Spaced}
-use Rattle.memory.proofs.Doubleword.{Fresh}
+use Rattle.flat.specs.Flat.{Flat, marked, flatHeld, flatAccess, blank}
+use Rattle.flat.specs.Comparison.{ifAccepted, acceptedOf, flips, renews, anyOf, flippedAt, renewedAt, Spaced}
+use Rattle.flat.proofs.Doubleword.{Fresh}
 
 -- the accepted accesses of a list, in order
 unfoldable pub acceptedAll : Spans → List Call → List Access

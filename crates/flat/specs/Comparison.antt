@@ -12,10 +12,10 @@ use Rattle.registers.specs.declared.Registers.{Registers}
 use Rattle.banks.specs.Setup.{setupOf}
 use Rattle.banks.specs.Map.{cellCount}
 use Rattle.control.specs.Calls.{declined, written}
 use Rattle.memory.specs.Access.{Access, read, write, flip, scrub, parts, Call, memory, readRegister, writeRegister}
 use Rattle.memory.specs.Spans.{Spans, turnedAway}
 use Rattle.memory.specs.Calls.{spansOf, run}
-use Rattle.memory.specs.Flat.{flatRun, blank}
+use Rattle.flat.specs.Flat.{flatRun, blank}
 
 -- "any record that a write of 8 to F2, accepted while memory was off, has just returned"
 pub record SwitchedOn (r : Registers) : Type 0 where

@@ -9,8 +9,8 @@ use native.Mathlib.Nat.{zero-add, not-suc-le-zero, le-of-suc-le-suc, add-zero, a
 use native.Mathlib.Decide.{decLt}
 use borrow.Author.Tests.{lt-ltb, le-ltb, le-leb, lt-leb}
 use lib.ListN.{length, take, drop, getD, replicate}
 use Rattle.memory.specs.Cells.{merge}
-use Rattle.memory.specs.Flat.{bytesFrom, put}
+use Rattle.flat.specs.Flat.{bytesFrom, put}
 
 -- the eight bytes of doubleword q
 unfoldable pub octet : (ℕ → ℕ) → ℕ → List ℕ

@@ -1,7 +1,11 @@
 use Rattle.control.specs.Calls.{writeAt, written}
 use borrow.Author.Needs.{needs}
-use Rattle.control.proofs.write.Statement.{statement}
-use Rattle.control.proofs.write.Tie as tie
+use Rattle.control.proofs.set.Statement.{statement}
+use Rattle.control.proofs.set.Tie as tie
+use Rattle.control.proofs.set.Reads as reads
+use Rattle.control.proofs.set.Lts as lts
+use Rattle.control.proofs.judge_write.Reads as judge-write-reads
+use Rattle.control.proofs.new_byte.Reads as new-byte-reads
 
 judge-write-requires : tie.Need-judge-write-requires
 judge-write-requires c κs = search needs
@@ -12,28 +16,28 @@ enum-told c = search needs
 new-byte-requires : tie.Need-new-byte-requires
 new-byte-requires c κs = search needs
 
-with-byte-requires : tie.Need-with-byte-requires
-with-byte-requires c κs = search needs
+element-write-registers : tie.Need-element-write-registers
+element-write-registers c = search needs
 
 enum-known-verdict : tie.Need-enum-known-verdict
 enum-known-verdict c = search needs
 
 returns : tie.Need-returns
 unfolding writeAt written
-returns c = simp (← c .before .before .before .before .judge-write .ensures, c .before .before .enum-told .given .1, c .with-byte .ensures, c .before .new-byte .ensures)
+returns c = simp (← c .before .before .before .before .judge-write .ensures, c .before .before .enum-told .given .1, c .new-byte .ensures)
 
 returns-2 : tie.Need-returns-2
 unfolding writeAt written
 returns-2 c = simp (← c .before .before .before .judge-write .ensures, c .before .verdict .given .1)
 
-pub write-spec : {M : Type 1} → statement M
-write-spec =
+pub set-spec : {M : Type 1} → statement M
+set-spec =
     tie.close
     (tie.spec
     judge-write-requires
     enum-told
     new-byte-requires
-    with-byte-requires
+    element-write-registers
     enum-known-verdict
     returns
     returns-2)

@@ -14,14 +14,14 @@ use Rattle.banks.specs.Setup.{setupOf}
 use Rattle.banks.specs.Map.{cellCount}
 use Rattle.banks.proofs.MapLaws.{isSome}
 use Rattle.ecc.specs.Columns.{accepted}
 use Rattle.memory.specs.declared.Kind.{Kind}
 use Rattle.memory.specs.declared.Kind.the-variants.{Clean, Corrected, Uncorrectable, Stored, NoBank, Flipped}
 use Rattle.memory.specs.Access.{Access, read, write, flip, scrub, addressOf, parts, Got, Given, Call, memory, readRegister, writeRegister}
 use Rattle.memory.specs.Spans.{Spans, turnedAway, missed}
 use Rattle.memory.specs.Calls.{spansOf, run}
-use Rattle.memory.specs.Flat.{Flat, blank, byMark, flatHeld, flatAccess, flatAccesses, flatSettled, flatCall, flatRun}
-use Rattle.memory.specs.Comparison.{SwitchedOn, AtErrorRegisters, All, Spaced, FlatComparison}
-use Rattle.memory.proofs.Comparison.{comparison}
+use Rattle.flat.specs.Flat.{Flat, blank, byMark, flatHeld, flatAccess, flatAccesses, flatSettled, flatCall, flatRun}
+use Rattle.flat.specs.Comparison.{SwitchedOn, AtErrorRegisters, All, Spaced, FlatComparison}
+use Rattle.flat.proofs.Comparison.{comparison}
 
 -- ---- no answer is "uncorrectable"
 

@@ -18,15 +18,15 @@ use Rattle.banks.proofs.MapLaws.{isSome, MapLaws, map-laws}
 use Rattle.control.proofs.SwitchLaws.{setup-written, ready-written}
 use Rattle.ecc.specs.Columns.{columns, accepted}
 use Rattle.ecc.proofs.ColumnLaws.{columns-accepted}
 use Rattle.memory.specs.Access.{Access, read, write, flip, scrub, addressOf, parts, Got, Given, Call, memory, readRegister, writeRegister}
 use Rattle.memory.specs.Spans.{Spans, byCount, byBit, byArguments, bySpans, turnedAway}
 use Rattle.memory.specs.Calls.{State, spansOf, unlentAt, unlent, refusal, access, accesses, settled, memoryCall, call, run}
-use Rattle.memory.specs.Flat.{Flat, blank, flatAccess, flatAccesses, flatSettled, flatCall, flatRun}
-use Rattle.memory.specs.Comparison.{SwitchedOn, AtErrorRegisters, All, ifAccepted, acceptedOf, FlatComparison}
+use Rattle.flat.specs.Flat.{Flat, blank, flatAccess, flatAccesses, flatSettled, flatCall, flatRun}
+use Rattle.flat.specs.Comparison.{SwitchedOn, AtErrorRegisters, All, ifAccepted, acceptedOf, FlatComparison}
 use Rattle.memory.proofs.CallLaws.{else-none}
-use Rattle.memory.proofs.Doubleword.{Allowed}
-use Rattle.memory.proofs.Simulation.{InStep, start, is-lent, Alike, access-alike}
-use Rattle.memory.proofs.Premise.{acceptedAll, Gentle, spaced-gentle}
+use Rattle.flat.proofs.Doubleword.{Allowed}
+use Rattle.flat.proofs.Simulation.{InStep, start, is-lent, Alike, access-alike}
+use Rattle.flat.proofs.Premise.{acceptedAll, Gentle, spaced-gentle}
 
 -- ---- what a chain of refusals that refuses nothing tells
 

@@ -15,11 +15,11 @@ use Rattle.ecc.specs.Columns.{accepted}
 use Rattle.ecc.specs.Code.{flipBit}
 use Rattle.ecc.specs.Cell.{encode, loadOf}
 use Rattle.ecc.proofs.Laws.{encode-length, flip-length, load-clean, load-flipped}
 use Rattle.memory.specs.declared.Kind.the-variants.{Clean, Corrected}
 use Rattle.memory.specs.Access.{Access, read, write, flip, scrub, addressOf, got}
 use Rattle.memory.specs.Cells.{answerOf, merge, readCell, unlessLost, mergeCell, writeCell, ifCorrected, scrubCell, onCell}
-use Rattle.memory.specs.Flat.{Flat, byMark, marked, flatHeld}
-use Rattle.memory.proofs.Octets.{octet, octet-length, octet-read, octet-merge, octet-whole, octet-other}
+use Rattle.flat.specs.Flat.{Flat, byMark, marked, flatHeld}
+use Rattle.flat.proofs.Octets.{octet, octet-length, octet-read, octet-merge, octet-whole, octet-other}
 
 -- an access that its arguments do not turn away
 abbrev pub Allowed : Access → Type 0

@@ -1,0 +1,62 @@
+use mathlib.Core.Path.{refl, sym}
+use Rattle.refusals.specs.Paper.{paper}
+use Rattle.ecc.specs.Columns.{columns}
+use Rattle.memory.proofs.AimLaws.{aimed}
+use Rattle.memory.proofs.CellCalls.{scrub-refused, scrub-missed}
+use borrow.Author.Needs.{needs}
+use Rattle.memory.proofs.access.answer_scrub.Statement.{statement}
+use Rattle.memory.proofs.access.answer_scrub.Tie as tie
+use Rattle.memory.proofs.access.answer_scrub.Reads as reads
+use Rattle.memory.proofs.access.answer_scrub.Lts as lts
+use Rattle.memory.proofs.aim.aim.Reads as aim-reads
+use Rattle.memory.proofs.cell.scrub_cell.Reads as scrub-cell-reads
+
+aim-requires : tie.Need-aim-requires
+aim-requires c κs = search needs
+
+enum-known-target : tie.Need-enum-known-target
+enum-known-target c = search needs
+
+enum-told : tie.Need-enum-told
+enum-told c = search needs
+
+enum-known-target-2 : tie.Need-enum-known-target-2
+enum-known-target-2 c = search needs
+
+scrub-cell-requires : tie.Need-scrub-cell-requires
+scrub-cell-requires c κs = search needs
+
+returns : tie.Need-returns
+returns c =
+    let a = c .before .before .before .before .before .args in
+    let h = aimed (a .registers) (a .address) (c .before .target .given .1) refl (c .before .before .before .aim .ensures) in
+    sym (scrub-refused columns (a .registers) (a .cells .now) (a .address) (paper (c .before .target .given .0 .0)) h)
+
+returns-2 : tie.Need-returns-2
+returns-2 c =
+    let a = c .before .before .before .before .args in
+    let h = aimed (a .registers) (a .address) (c .enum-told .given .1) refl (c .before .before .aim .ensures) in
+    sym (scrub-missed columns (a .registers) (a .cells .now) (a .address) (h .0) (h .1))
+
+same-length : tie.Need-same-length
+same-length c = search needs
+
+returns-3 : tie.Need-returns-3
+returns-3 c =
+    let a = c .before .before .before .before .before .before .before .before .before .args in
+    let h = aimed (a .registers) (a .address) (c .before .before .before .before .before .target2 .given .1) refl (c .before .before .before .before .before .before .before .aim .ensures) in
+    c .before .before .scrub-cell .ensures (a .registers) (h .0) (h .1)
+
+pub answer-scrub-spec : {M : Type 1} → statement M
+answer-scrub-spec =
+    tie.close
+    (tie.spec
+    aim-requires
+    enum-known-target
+    enum-told
+    enum-known-target-2
+    scrub-cell-requires
+    returns
+    returns-2
+    same-length
+    returns-3)
