@@ -4,8 +4,8 @@ use mathlib.Core.List.{List, [], _∷_}
 use Prim.Native.Nat.{ℕ, zero, suc, _+_, _^_, _≤_, _<_}
 use native.Mathlib.Nat.{add-zero, zero-add}
 use native.Mathlib.Omega.{arith}
-use lib.Dec.{ltb, lit<}
-use lib.ListN.{length, getD}
+use lib.Dec.{ltb}
+use lib.ListN.{getD}
 use lib.Pow.{pow-pos, pow-mono}
 use borrow.Author.Tests.{ltb-true, ltb-false}
 use Rattle.ranges.specs.Range.{first, firstOf}
@@ -13,9 +13,8 @@ use Rattle.ranges.proofs.RangeLaws.{byCases, first-le, first-ge}
 use Rattle.registers.specs.Record.{at}
 use Rattle.registers.specs.declared.Registers.{Registers}
 use Rattle.banks.specs.declared.setup.Bank.{Bank}
-use Rattle.banks.specs.declared.setup.Setup.{Setup}
 use Rattle.banks.specs.Setup.{startOf, lastOf, enabledOf, rowBits, megabytes, fits, columnBits, enabledBank, bankOf, setupOf, offBank, bank}
-use Rattle.banks.specs.Setup.{Bounded, AllBounded, Sound}
+use Rattle.banks.specs.Setup.{Bounded}
 use Rattle.banks.specs.Map.{cells}
 
 -- what the fields of a bank that is taken out of a record keep to, whatever its bytes are
@@ -97,23 +96,6 @@ bounded-off =
       columns-most = omega arith;
     }
 
-bounded-in : (bs : List Bank) → AllBounded bs → (n : ℕ) → Bounded (getD bs n offBank)
-bounded-in [] h n = bounded-off
-bounded-in (b ∷ bs) h zero = h .0
-bounded-in (b ∷ bs) h (suc n) = bounded-in bs (h .1) n
-
-pub sound-at : (s : Setup) → Sound s → (n : ℕ) → Bounded (bank s n)
-sound-at s h n = bounded-in (s .banks) (h .1) n
-
--- a bank that is there is found whatever is said to stand past the last one
-there : (bs : List Bank) (n : ℕ) (x y : Bank) → n < length bs → getD bs n x ≡ getD bs n y
-there [] n x y h = absurd (omega arith)
-there (b ∷ bs) zero x y h = refl
-there (b ∷ bs) (suc n) x y h = there bs n x y (omega arith)
-
-pub bank-there : (s : Setup) → Sound s → (n : ℕ) (x : Bank) → n < 8 → getD (s .banks) n x ≡ bank s n
-bank-there s h n x l = there (s .banks) n x offBank (omega (arith, h .0))
-
 -- in a record of bytes each bank keeps to the bounds
 module _ (r : Registers) (h : (o : ℕ) → o < 256 → at r o < 256) where
   bounded-enabled : (n : ℕ) → n < 8 → Bounded (enabledBank r n)
@@ -133,11 +115,10 @@ module _ (r : Registers) (h : (o : ℕ) → o < 256 → at r o < 256) where
   unfolding bankOf
   bounded-bank n l = byCases (enabledOf r n) (λ t. rw t (bounded-enabled n l)) (λ t. rw t bounded-off)
 
-  pub sound-of : Sound (setupOf r)
-  unfolding setupOf
-  sound-of =
-      let b : (n : ℕ) → n < 8 → Bounded (bankOf r n) = bounded-bank in
-      (refl, (b 0 (lit< tt), (b 1 (lit< tt), (b 2 (lit< tt), (b 3 (lit< tt), (b 4 (lit< tt), (b 5 (lit< tt), (b 6 (lit< tt), (b 7 (lit< tt), tt)))))))))
+  pub bounded : (n : ℕ) → Bounded (bank (setupOf r) n)
+  bounded n =
+      byCases (ltb n 8) (λ t. let l = ltb-true n 8 t in rw (bank-is r n l) (bounded-bank n l))
+      (λ t. rw (bank-past r n (ltb-false n 8 t)) bounded-off)
 
 -- a bank has a cell, and no more than 24 bits number
 pub cells-least : (b : Bank) → 0 < cells b

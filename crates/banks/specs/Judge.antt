@@ -7,8 +7,7 @@ use lib.Dec.{ltb, leb}
 use Rattle.ranges.specs.Range.{first}
 use Rattle.refusals.specs.Paper.{Declined, refuse, _else_}
 use Rattle.banks.specs.declared.setup.Bank.{Bank}
-use Rattle.banks.specs.declared.setup.Setup.{Setup}
-use Rattle.banks.specs.Setup.{megabytes, fits, bank}
+use Rattle.banks.specs.Setup.{Setup, megabytes, fits, bank}
 
 -- the lowest bank that passes the test, or 8
 unfoldable pub lowest : (Bank → Bool) → Setup → ℕ

@@ -2,14 +2,17 @@
 use Prim.Native.Nat.{ℕ, _+_, _-_, _*_, _/_, _%_, _^_, _≤_, _<_}
 use mathlib.Core.Bool.{Bool, true, false, cond}
 use mathlib.Core.List.{List, [], _∷_}
-use mathlib.Core.Path.{_≡_}
-use lib.ListN.{length, getD}
+use lib.ListN.{getD}
 use lib.Dec.{leb, eqb}
 use Rattle.ranges.specs.Range.{first}
 use Rattle.registers.specs.Record.{at}
 use Rattle.registers.specs.declared.Registers.{Registers}
 use Rattle.banks.specs.declared.setup.Bank.{Bank}
-use Rattle.banks.specs.declared.setup.Setup.{Setup}
+
+-- memory on, and the eight banks
+pub record Setup : Type 0 where
+  pub on : Bool
+  pub banks : List Bank
 
 -- "80+n, 88+n: start of bank n in MB: low eight bits, then two extended bits"; "extended bytes count only by their two low bits"
 unfoldable pub startOf : Registers → ℕ → ℕ
@@ -77,11 +80,3 @@ pub record Bounded (b : Bank) : Type 0 where
   pub rows-most : b .rows ≤ 12
   pub columns-least : 8 ≤ b .columns
   pub columns-most : b .columns ≤ 12
-
-abbrev pub AllBounded : List Bank → Type 0
-AllBounded [] = Unit {0}
-AllBounded (b ∷ bs) = Bounded b × AllBounded bs
-
--- eight banks of such fields
-abbrev pub Sound : Setup → Type 0
-Sound s = (length (s .banks) ≡ 8) × AllBounded (s .banks)

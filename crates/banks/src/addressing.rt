@@ -1,16 +1,16 @@
 // From address to cell.
 ghost use mathlib.Core.Path.{_≡_};
 ghost use Prim.Native.Nat.{_+_, _*_, _/_, _%_, _^_, _≤_, _<_};
-ghost use Rattle.banks.specs.Setup.{Bounded, Sound, bank};
+ghost use Rattle.banks.specs.Setup.{Bounded, bank, setupOf};
 ghost use Rattle.banks.specs.Map.{paperMapping, holds, bankAt, cells, share, cellsBelow, wordOf, placeOf, mapped};
 use crate::Column;
 use crate::Mapping;
 use crate::Place;
 use crate::Row;
 use crate::setup::Bank;
-use crate::setup::Setup;
-use crate::setup::nth;
+use crate::setup::bank_of;
 use refusals::Refusal;
+use registers::Registers;
 
 // 2 to the power k.
 pub(crate) fn power(k: u32) -> u32
@@ -26,12 +26,11 @@ fn holds_megabyte(b: Bank, mb: u32) -> bool
     b.enabled & ((b.start <= mb) & (mb <= b.last))
 }
 
-pub(crate) fn bank_at(s: Setup, mb: u32) -> u8
-    requires { ⌜ Sound s ⌝ }
-    ensures { λ n. ⌜ n ≡ bankAt s mb ⌝ }
+pub(crate) fn bank_at(r: Registers, mb: u32) -> u8
+    ensures { λ n. ⌜ n ≡ bankAt (setupOf r) mb ⌝ }
 {
     for n in 0..8u8 {
-        if holds_megabyte(nth(s, n), mb) {
+        if holds_megabyte(bank_of(r, n), mb) {
             return n;
         }
     }
@@ -54,14 +53,14 @@ fn share_of(b: Bank) -> u32
     if b.enabled { cell_count(b) } else { 0 }
 }
 
-fn cells_below(s: Setup, n: u8) -> u32
-    requires { ⌜ Sound s × (n ≤ 8) ⌝ }
-    ensures { λ k. ⌜ k ≡ cellsBelow s n ⌝ }
+fn cells_below(r: Registers, n: u8) -> u32
+    requires { ⌜ n ≤ 8 ⌝ }
+    ensures { λ k. ⌜ k ≡ cellsBelow (setupOf r) n ⌝ }
     ensures bound { λ k. ⌜ k ≤ 2 ^ 27 ⌝ }
 {
     let mut k: u32 = 0;
     for m in 0..n {
-        k += share_of(nth(s, m));
+        k += share_of(bank_of(r, m));
     }
     k
 }
@@ -75,31 +74,30 @@ pub(crate) fn word(b: Bank, address: u32) -> u32
     address >> 3 & (cell_count(b) - 1)
 }
 
-fn place_in(s: Setup, n: u8, address: u32) -> Place
-    requires { ⌜ Sound s × (n < 8) ⌝ }
-    ensures { λ p. ⌜ p ≡ placeOf s n address ⌝ }
+fn place_in(r: Registers, n: u8, address: u32) -> Place
+    requires { ⌜ n < 8 ⌝ }
+    ensures { λ p. ⌜ p ≡ placeOf (setupOf r) n address ⌝ }
 {
-    let b = nth(s, n);
+    let b = bank_of(r, n);
     let w = word(b, address);
     let columns = b.columns;
     Place {
         bank: n,
         row: Row(w >> columns),
         column: Column(w & (power(columns) - 1)),
-        cell: cells_below(s, n) + w,
+        cell: cells_below(r, n) + w,
     }
 }
 
-pub(crate) fn map_address(s: Setup, address: u32) -> Mapping
-    requires { ⌜ Sound s ⌝ }
-    ensures { λ m. ⌜ paperMapping m ≡ mapped s address ⌝ }
+pub(crate) fn map_address(r: Registers, address: u32) -> Mapping
+    ensures { λ m. ⌜ paperMapping m ≡ mapped (setupOf r) address ⌝ }
 {
-    if !crate::judging::is_ready(s) {
+    if !crate::judging::is_ready(r) {
         return Mapping::Refused(Refusal::NotReady);
     }
-    let n = bank_at(s, address >> 20);
+    let n = bank_at(r, address >> 20);
     if n < 8 {
-        return Mapping::At(place_in(s, n, address));
+        return Mapping::At(place_in(r, n, address));
     }
     Mapping::NoBank
 }

@@ -3,7 +3,7 @@ ghost use mathlib.Core.Path.{_≡_};
 ghost use mathlib.Core.Bool.{true, cond};
 ghost use Prim.Native.Nat.{_+_, _*_, _/_, _^_, _≤_, _<_};
 ghost use lib.Dec.{ltb};
-ghost use Rattle.banks.specs.Setup.{Bounded, Sound};
+ghost use Rattle.banks.specs.Setup.{Bounded, setupOf};
 ghost use Rattle.banks.specs.Map.{cells};
 ghost use Rattle.banks.specs.WayBack.{paperBack, inRange, addressAt, back};
 use crate::Column;
@@ -12,9 +12,9 @@ use crate::Row;
 use crate::addressing::cell_count;
 use crate::addressing::power;
 use crate::setup::Bank;
-use crate::setup::Setup;
-use crate::setup::nth;
+use crate::setup::bank_of;
 use refusals::Refusal;
+use registers::Registers;
 
 fn is_in_range(b: Bank, row: Row, column: Column) -> bool
     requires { ⌜ Bounded b ⌝ }
@@ -54,17 +54,16 @@ fn address(b: Bank, row: Row, column: Column) -> Origin
     }
 }
 
-pub(crate) fn origin_of(s: Setup, n: u8, row: Row, column: Column) -> Origin
-    requires { ⌜ Sound s ⌝ }
-    ensures { λ x. ⌜ paperBack x ≡ back s n row column ⌝ }
+pub(crate) fn origin_of(r: Registers, n: u8, row: Row, column: Column) -> Origin
+    ensures { λ x. ⌜ paperBack x ≡ back (setupOf r) n row column ⌝ }
 {
-    if !crate::judging::is_ready(s) {
+    if !crate::judging::is_ready(r) {
         return Origin::Refused(Refusal::NotReady);
     }
     if 8 <= n {
         return Origin::Refused(Refusal::BankOff);
     }
-    let b = nth(s, n);
+    let b = bank_of(r, n);
     if !b.enabled {
         return Origin::Refused(Refusal::BankOff);
     }

@@ -3,13 +3,13 @@ ghost use mathlib.Core.Path.{_≡_};
 ghost use Prim.Native.Nat.{_<_};
 ghost use Rattle.ranges.specs.Range.{first};
 ghost use Rattle.refusals.specs.Paper.{paper, paperVerdict};
-ghost use Rattle.banks.specs.Setup.{Bounded, Sound, bank};
+ghost use Rattle.banks.specs.Setup.{Bounded, bank, setupOf};
 ghost use Rattle.banks.specs.Judge.{lowest, isEnabled, inverted, tooLong, faulty, faultOf, meets, meetsLower, lowestMeeting, judged, isAccepted, ready};
 use crate::setup::Bank;
-use crate::setup::Setup;
-use crate::setup::nth;
+use crate::setup::bank_of;
 use refusals::Refusal;
 use refusals::Verdict;
+use registers::Registers;
 
 fn is_inverted(b: Bank) -> bool
     ensures { λ t. ⌜ t ≡ inverted b ⌝ }
@@ -41,12 +41,11 @@ fn spans_meet(b: Bank, c: Bank) -> bool
     c.enabled & ((c.start <= b.last) & (b.start <= c.last))
 }
 
-fn lowest_enabled(s: Setup) -> u8
-    requires { ⌜ Sound s ⌝ }
-    ensures { λ n. ⌜ n ≡ lowest isEnabled s ⌝ }
+fn lowest_enabled(r: Registers) -> u8
+    ensures { λ n. ⌜ n ≡ lowest isEnabled (setupOf r) ⌝ }
 {
     for n in 0..8u8 {
-        let b = nth(s, n);
+        let b = bank_of(r, n);
         if b.enabled {
             return n;
         }
@@ -54,12 +53,11 @@ fn lowest_enabled(s: Setup) -> u8
     8
 }
 
-fn lowest_faulty(s: Setup) -> u8
-    requires { ⌜ Sound s ⌝ }
-    ensures { λ n. ⌜ n ≡ lowest faulty s ⌝ }
+fn lowest_faulty(r: Registers) -> u8
+    ensures { λ n. ⌜ n ≡ lowest faulty (setupOf r) ⌝ }
 {
     for n in 0..8u8 {
-        if is_faulty(nth(s, n)) {
+        if is_faulty(bank_of(r, n)) {
             return n;
         }
     }
@@ -67,35 +65,34 @@ fn lowest_faulty(s: Setup) -> u8
 }
 
 // The lowest bank below n whose span meets that of b, or n.
-fn lowest_met(s: Setup, b: Bank, n: u8) -> u8
-    requires { ⌜ Sound s × (n < 8) ⌝ }
-    ensures { λ m. ⌜ m ≡ first (λ k. meets b (bank s k)) n 0 ⌝ }
+fn lowest_met(r: Registers, b: Bank, n: u8) -> u8
+    requires { ⌜ n < 8 ⌝ }
+    ensures { λ m. ⌜ m ≡ first (λ k. meets b (bank (setupOf r) k)) n 0 ⌝ }
 {
     for m in 0..n {
-        if spans_meet(b, nth(s, m)) {
+        if spans_meet(b, bank_of(r, m)) {
             return m;
         }
     }
     n
 }
 
-fn meets_lower(s: Setup, n: u8) -> bool
-    requires { ⌜ Sound s × (n < 8) ⌝ }
-    ensures { λ t. ⌜ t ≡ meetsLower s n ⌝ }
+fn meets_lower(r: Registers, n: u8) -> bool
+    requires { ⌜ n < 8 ⌝ }
+    ensures { λ t. ⌜ t ≡ meetsLower (setupOf r) n ⌝ }
 {
-    let b = nth(s, n);
+    let b = bank_of(r, n);
     if b.enabled {
-        return lowest_met(s, b, n) < n;
+        return lowest_met(r, b, n) < n;
     }
     false
 }
 
-fn lowest_meeting(s: Setup) -> u8
-    requires { ⌜ Sound s ⌝ }
-    ensures { λ n. ⌜ n ≡ lowestMeeting s ⌝ }
+fn lowest_meeting(r: Registers) -> u8
+    ensures { λ n. ⌜ n ≡ lowestMeeting (setupOf r) ⌝ }
 {
     for n in 0..8u8 {
-        if meets_lower(s, n) {
+        if meets_lower(r, n) {
             return n;
         }
     }
@@ -112,18 +109,17 @@ fn fault(b: Bank, n: u8) -> Refusal
     }
 }
 
-pub(crate) fn verdict(s: Setup) -> Verdict
-    requires { ⌜ Sound s ⌝ }
-    ensures { λ v. ⌜ paperVerdict v ≡ judged s ⌝ }
+pub(crate) fn verdict(r: Registers) -> Verdict
+    ensures { λ v. ⌜ paperVerdict v ≡ judged (setupOf r) ⌝ }
 {
-    if 8 <= lowest_enabled(s) {
+    if 8 <= lowest_enabled(r) {
         return Verdict::Refused(Refusal::NoBankEnabled);
     }
-    let n = lowest_faulty(s);
+    let n = lowest_faulty(r);
     if n < 8 {
-        return Verdict::Refused(fault(nth(s, n), n));
+        return Verdict::Refused(fault(bank_of(r, n), n));
     }
-    let m = lowest_meeting(s);
+    let m = lowest_meeting(r);
     if m < 8 {
         return Verdict::Refused(Refusal::Overlap(m));
     }
@@ -140,9 +136,8 @@ fn is_accepted(v: Verdict) -> bool
 }
 
 // Memory is on, and the set-up may be.
-pub(crate) fn is_ready(s: Setup) -> bool
-    requires { ⌜ Sound s ⌝ }
-    ensures { λ t. ⌜ t ≡ ready s ⌝ }
+pub(crate) fn is_ready(r: Registers) -> bool
+    ensures { λ t. ⌜ t ≡ ready (setupOf r) ⌝ }
 {
-    s.on & is_accepted(verdict(s))
+    crate::setup::memory_on(r) & is_accepted(verdict(r))
 }

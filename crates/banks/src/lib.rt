@@ -59,26 +59,26 @@ pub fn is_on(r: Registers) -> bool
 pub fn judge(r: Registers) -> Verdict
     ensures { λ v. ⌜ paperVerdict v ≡ judged (setupOf r) ⌝ }
 {
-    judging::verdict(setup::setup_of(r))
+    judging::verdict(r)
 }
 
 // Bank, row, column and cell number of an address.
 pub fn map(r: Registers, address: u32) -> Mapping
     ensures { λ m. ⌜ paperMapping m ≡ mapped (setupOf r) address ⌝ }
 {
-    addressing::map_address(setup::setup_of(r), address)
+    addressing::map_address(r, address)
 }
 
 // The address of the doubleword at a row and a column of a bank.
 pub fn way_back(r: Registers, bank: u8, row: Row, column: Column) -> Origin
     ensures { λ x. ⌜ paperBack x ≡ back (setupOf r) bank row column ⌝ }
 {
-    inverse::origin_of(setup::setup_of(r), bank, row, column)
+    inverse::origin_of(r, bank, row, column)
 }
 
 // Whether every address has the same bank, row and column, or no bank, in both records.
 pub fn compare(r: Registers, s: Registers) -> Comparison
     ensures { λ x. ⌜ paperComparison x ≡ compared (setupOf r) (setupOf s) ⌝ }
 {
-    likeness::comparison_of(setup::setup_of(r), setup::setup_of(s))
+    likeness::comparison_of(r, s)
 }

@@ -3,7 +3,7 @@ ghost use mathlib.Core.Path.{_≡_};
 ghost use Prim.Native.Nat.{_+_, _*_, _/_, _%_, _^_, _≤_, _<_};
 ghost use lib.Dec.{eqb};
 ghost use Rattle.registers.specs.Record.{at};
-ghost use Rattle.banks.specs.Setup.{Bounded, Sound, megabytes, fits, columnBits, enabledBank, bankOf, setupOf, bank};
+ghost use Rattle.banks.specs.Setup.{Bounded, megabytes, fits, columnBits, enabledBank, setupOf, bank};
 use registers::Registers;
 
 pub struct Bank {
@@ -12,11 +12,6 @@ pub struct Bank {
     pub last: u32,
     pub rows: u32,
     pub columns: u32,
-}
-
-pub struct Setup {
-    pub on: bool,
-    pub banks: [Bank; 8],
 }
 
 // Bits shift and shift + 1 of a byte.
@@ -98,9 +93,10 @@ fn enabled_bank(r: Registers, n: u8) -> Bank
     }
 }
 
-fn bank_of(r: Registers, n: u8) -> Bank
+// Bank n, read from the record wherever it is wanted: copies of eight decoded banks cost more than reading one again.
+pub(crate) fn bank_of(r: Registers, n: u8) -> Bank
     requires { ⌜ n < 8 ⌝ }
-    ensures { λ b. ⌜ b ≡ bankOf r n ⌝ }
+    ensures { λ b. ⌜ b ≡ bank (setupOf r) n ⌝ }
     ensures bound { λ b. ⌜ Bounded b ⌝ }
 {
     if bit(r.byte(registers::BANK_ENABLE), n) {
@@ -119,31 +115,4 @@ pub(crate) fn memory_on(r: Registers) -> bool
     ensures { λ t. ⌜ t ≡ setupOf r .on ⌝ }
 {
     bit(r.byte(registers::MEMORY), 3)
-}
-
-pub(crate) fn setup_of(r: Registers) -> Setup
-    ensures { λ s. ⌜ s ≡ setupOf r ⌝ }
-    ensures bound { λ s. ⌜ Sound s ⌝ }
-{
-    Setup {
-        on: memory_on(r),
-        banks: [
-            bank_of(r, 0),
-            bank_of(r, 1),
-            bank_of(r, 2),
-            bank_of(r, 3),
-            bank_of(r, 4),
-            bank_of(r, 5),
-            bank_of(r, 6),
-            bank_of(r, 7),
-        ],
-    }
-}
-
-pub(crate) fn nth(s: Setup, n: u8) -> Bank
-    requires { ⌜ Sound s × (n < 8) ⌝ }
-    ensures { λ b. ⌜ b ≡ bank s n ⌝ }
-    ensures bound { λ b. ⌜ Bounded b ⌝ }
-{
-    s.banks[n as usize]
 }

@@ -10,8 +10,7 @@ use lib.Dec.{ltb, eqb}
 use borrow.Author.Tests.{ltb-false}
 use Rattle.refusals.specs.Paper.{Declined, refuse, _else_, given}
 use Rattle.registers.specs.declared.Registers.{Registers}
-use Rattle.banks.specs.declared.setup.Setup.{Setup}
-use Rattle.banks.specs.Setup.{setupOf}
+use Rattle.banks.specs.Setup.{Setup, setupOf}
 use Rattle.banks.specs.Judge.{ready}
 use Rattle.banks.specs.Map.{cellOf}
 use Rattle.banks.proofs.MapLaws.{isSome, MapLaws, map-laws}

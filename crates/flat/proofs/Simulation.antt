@@ -10,8 +10,7 @@ use native.Mathlib.Omega.{arith}
 use native.Mathlib.Decide.{ℕ-discrete}
 use lib.ListN.{length, replicate, length-replicate}
 use Rattle.registers.specs.declared.Registers.{Registers}
-use Rattle.banks.specs.declared.setup.Setup.{Setup}
-use Rattle.banks.specs.Setup.{setupOf}
+use Rattle.banks.specs.Setup.{Setup, setupOf}
 use Rattle.banks.specs.Map.{cellOf, cellCount}
 use Rattle.banks.proofs.MapLaws.{isSome, MapLaws}
 use Rattle.ecc.specs.Columns.{accepted}

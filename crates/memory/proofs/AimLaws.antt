@@ -13,9 +13,8 @@ use Rattle.refusals.specs.declared.Refusal.{Refusal}
 use Rattle.refusals.specs.declared.Verdict.{Verdict}
 use Rattle.refusals.specs.declared.Verdict.the-variants as verdict
 use Rattle.registers.specs.declared.Registers.{Registers}
-use Rattle.banks.specs.declared.setup.Setup.{Setup}
 use Rattle.banks.specs.declared.Place.{Place}
-use Rattle.banks.specs.Setup.{setupOf}
+use Rattle.banks.specs.Setup.{Setup, setupOf}
 use Rattle.banks.specs.Judge.{ready}
 use Rattle.banks.specs.Map.{cellOf, mapped}
 use Rattle.banks.proofs.CommonLaws.{never}

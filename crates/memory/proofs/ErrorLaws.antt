@@ -8,8 +8,7 @@ use lib.Bits.{bitOr}
 use lib.Dec.{ltb}
 use Rattle.registers.specs.Record.{at, stored}
 use Rattle.registers.specs.declared.Registers.{Registers}
-use Rattle.banks.specs.declared.setup.Setup.{Setup}
-use Rattle.banks.specs.Setup.{setupOf}
+use Rattle.banks.specs.Setup.{Setup, setupOf}
 use Rattle.banks.proofs.StoreLaws.{setup-between}
 use Rattle.memory.specs.declared.Kind.{Kind}
 use Rattle.memory.specs.declared.Kind.the-variants.{Clean, Corrected, Uncorrectable, Stored, NoBank, Flipped}

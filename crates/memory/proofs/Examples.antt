@@ -9,8 +9,7 @@ use Rattle.ranges.specs.Range.{firstOf, first, sum}
 use Rattle.refusals.specs.Paper.{given, refused}
 use Rattle.registers.specs.Record.{fresh, stored}
 use Rattle.registers.specs.declared.Registers.{Registers}
-use Rattle.banks.specs.declared.setup.Setup.{Setup}
-use Rattle.banks.specs.Setup.{startOf, lastOf, enabledOf, rowBits, megabytes, fits, columnBits, enabledBank, bankOf, setupOf, bank}
+use Rattle.banks.specs.Setup.{Setup, startOf, lastOf, enabledOf, rowBits, megabytes, fits, columnBits, enabledBank, bankOf, setupOf, bank}
 use Rattle.banks.specs.Judge.{lowest, inverted, tooLong, faulty, faultOf, meets, meetsLower, lowestMeeting, judged, ready}
 use Rattle.banks.specs.Map.{holds, bankAt, cells, wordOf, rowOf, columnOf, share, cellsBelow, placeOf, inSpan, located, mapped}
 use Rattle.banks.specs.WayBack.{spanEnd, inRange, back}

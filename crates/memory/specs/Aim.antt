@@ -8,8 +8,7 @@ use mathlib.Core.Option.{Option, none, some}
 use Rattle.refusals.specs.Paper.{paper, Declined, refuse, _else_}
 use Rattle.refusals.specs.declared.Verdict.{Verdict}
 use Rattle.refusals.specs.declared.Verdict.the-variants as verdict
-use Rattle.banks.specs.declared.setup.Setup.{Setup}
-use Rattle.banks.specs.Setup.{setupOf}
+use Rattle.banks.specs.Setup.{Setup, setupOf}
 use Rattle.banks.specs.Judge.{ready}
 use Rattle.banks.specs.Map.{cellOf}
 use Rattle.ecc.specs.declared.Reading.{Reading}

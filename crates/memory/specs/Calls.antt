@@ -8,8 +8,7 @@ use mathlib.Core.Option.{Option, none, some}
 use lib.ListN.{length}
 use Rattle.refusals.specs.Paper.{paper, Declined, refuse, _else_, Outcome, refused, given}
 use Rattle.registers.specs.declared.Registers.{Registers}
-use Rattle.banks.specs.declared.setup.Setup.{Setup}
-use Rattle.banks.specs.Setup.{setupOf}
+use Rattle.banks.specs.Setup.{Setup, setupOf}
 use Rattle.banks.specs.Judge.{ready}
 use Rattle.banks.specs.Map.{inSpan, cellOf}
 use Rattle.control.specs.Calls.{written}

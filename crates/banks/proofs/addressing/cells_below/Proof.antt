@@ -3,25 +3,25 @@ use mathlib.Core.Path.{_≡_, sym, ap, _∙_}
 use native.Mathlib.Omega.{arith}
 use Rattle.ranges.specs.Range.{sum}
 use Rattle.ranges.proofs.RangeLaws.{sum-zero, sum-more}
-use Rattle.banks.specs.Setup.{bank}
+use Rattle.banks.specs.Setup.{bank, setupOf}
 use Rattle.banks.specs.Map.{share, cellsBelow}
 use Rattle.banks.proofs.addressing.cells_below.Statement.{statement}
 use Rattle.banks.proofs.addressing.cells_below.Tie as tie
 
 abbrev Inv-loop : tie.InvT-loop
-Inv-loop s n k₀ m₀ k m = (m ≤ n) × (k ≡ sum (λ i. share (bank s i)) m) × (k ≤ m * 2 ^ 24)
+Inv-loop r n k₀ m₀ k m = (m ≤ n) × (k ≡ sum (λ i. share (bank (setupOf r) i)) m) × (k ≤ m * 2 ^ 24)
 
 abbrev μ-loop : tie.MeasureT-loop
-μ-loop s n k₀ m₀ k m = n - m
+μ-loop r n k₀ m₀ k m = n - m
 
 loop-holds : tie.Need-loop-holds Inv-loop μ-loop
 loop-holds c = (omega arith, sym (sum-zero _), omega arith)
 
-nth-requires : tie.Need-nth-requires Inv-loop μ-loop
-nth-requires c κs = (c .before .before .pre .0, omega arith)
+bank-of-requires : tie.Need-bank-of-requires Inv-loop μ-loop
+bank-of-requires c κs = omega arith
 
 share-of-requires : tie.Need-share-of-requires Inv-loop μ-loop
-share-of-requires c κs = c .nth .ensures .1
+share-of-requires c κs = c .bank-of .ensures .1
 
 add-k : tie.Need-add-k Inv-loop μ-loop
 add-k c = omega arith
@@ -46,7 +46,7 @@ cells-below-spec =
     Inv-loop
     μ-loop
     loop-holds
-    nth-requires
+    bank-of-requires
     share-of-requires
     add-k
     add-m

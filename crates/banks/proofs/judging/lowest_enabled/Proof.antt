@@ -2,26 +2,26 @@ use Prim.Native.Nat.{_-_}
 use mathlib.Core.Path.{refl, ap}
 use native.Mathlib.Omega.{arith}
 use Rattle.ranges.proofs.RangeLaws.{Looked, hit, skip, none}
-use Rattle.banks.specs.Setup.{bank}
+use Rattle.banks.specs.Setup.{bank, setupOf}
 use Rattle.banks.specs.Judge.{lowest, isEnabled}
 use Rattle.banks.proofs.judging.lowest_enabled.Statement.{statement}
 use Rattle.banks.proofs.judging.lowest_enabled.Tie as tie
 
 abbrev Inv-loop : tie.InvT-loop
-Inv-loop s n₀ n = Looked (λ k. isEnabled (bank s k)) 8 0 n
+Inv-loop r n₀ n = Looked (λ k. isEnabled (bank (setupOf r) k)) 8 0 n
 
 abbrev μ-loop : tie.MeasureT-loop
-μ-loop s n₀ n = 8 - n
+μ-loop r n₀ n = 8 - n
 
 loop-holds : tie.Need-loop-holds Inv-loop μ-loop
 loop-holds c = (omega arith, refl)
 
-nth-requires : tie.Need-nth-requires Inv-loop μ-loop
-nth-requires c κs = (c .before .before .pre, omega arith)
+bank-of-requires : tie.Need-bank-of-requires Inv-loop μ-loop
+bank-of-requires c κs = omega arith
 
 returns : tie.Need-returns Inv-loop μ-loop
 unfolding lowest
-returns c = hit _ _ _ _ (c .before .before .before .loop .inv) (c .before .before .loop-test .taken) (ap isEnabled (c .before .nth .ensures .0)) (c .if1 .taken)
+returns c = hit _ _ _ _ (c .before .before .before .loop .inv) (c .before .before .loop-test .taken) (ap isEnabled (c .before .bank-of .ensures .0)) (c .if1 .taken)
 
 add-n : tie.Need-add-n Inv-loop μ-loop
 add-n c = omega arith
@@ -30,7 +30,7 @@ loop-less : tie.Need-loop-less Inv-loop μ-loop
 loop-less c = omega arith
 
 loop-again : tie.Need-loop-again Inv-loop μ-loop
-loop-again c = skip _ _ _ _ (c .before .before .before .loop .inv) (c .before .before .loop-test .taken) (ap isEnabled (c .before .nth .ensures .0)) (c .if1 .left)
+loop-again c = skip _ _ _ _ (c .before .before .before .loop .inv) (c .before .before .loop-test .taken) (ap isEnabled (c .before .bank-of .ensures .0)) (c .if1 .left)
 
 returns-2 : tie.Need-returns-2 Inv-loop μ-loop
 unfolding lowest
@@ -39,4 +39,4 @@ returns-2 c = none _ _ _ _ (c .before .loop .inv) (c .loop-test .left)
 pub lowest-enabled-spec : {M : Type 1} → statement M
 lowest-enabled-spec =
     tie.close
-    (tie.spec Inv-loop μ-loop loop-holds nth-requires returns add-n loop-less loop-again returns-2)
+    (tie.spec Inv-loop μ-loop loop-holds bank-of-requires returns add-n loop-less loop-again returns-2)

@@ -2,29 +2,29 @@ use Prim.Native.Nat.{_-_}
 use mathlib.Core.Path.{refl, ap, _∙_}
 use native.Mathlib.Omega.{arith}
 use Rattle.ranges.proofs.RangeLaws.{Looked, hit, skip, none}
-use Rattle.banks.specs.Setup.{bank}
+use Rattle.banks.specs.Setup.{bank, setupOf}
 use Rattle.banks.specs.Judge.{lowest, faulty}
 use Rattle.banks.proofs.judging.lowest_faulty.Statement.{statement}
 use Rattle.banks.proofs.judging.lowest_faulty.Tie as tie
 
 abbrev Inv-loop : tie.InvT-loop
-Inv-loop s n₀ n = Looked (λ k. faulty (bank s k)) 8 0 n
+Inv-loop r n₀ n = Looked (λ k. faulty (bank (setupOf r) k)) 8 0 n
 
 abbrev μ-loop : tie.MeasureT-loop
-μ-loop s n₀ n = 8 - n
+μ-loop r n₀ n = 8 - n
 
 loop-holds : tie.Need-loop-holds Inv-loop μ-loop
 loop-holds c = (omega arith, refl)
 
-nth-requires : tie.Need-nth-requires Inv-loop μ-loop
-nth-requires c κs = (c .before .before .pre, omega arith)
+bank-of-requires : tie.Need-bank-of-requires Inv-loop μ-loop
+bank-of-requires c κs = omega arith
 
 is-faulty-requires : tie.Need-is-faulty-requires Inv-loop μ-loop
-is-faulty-requires c κs = c .nth .ensures .1
+is-faulty-requires c κs = c .bank-of .ensures .1
 
 returns : tie.Need-returns Inv-loop μ-loop
 unfolding lowest
-returns c = hit _ _ _ _ (c .before .before .before .before .loop .inv) (c .before .before .before .loop-test .taken) (c .before .is-faulty .ensures ∙ ap faulty (c .before .before .nth .ensures .0)) (c .if1 .taken)
+returns c = hit _ _ _ _ (c .before .before .before .before .loop .inv) (c .before .before .before .loop-test .taken) (c .before .is-faulty .ensures ∙ ap faulty (c .before .before .bank-of .ensures .0)) (c .if1 .taken)
 
 add-n : tie.Need-add-n Inv-loop μ-loop
 add-n c = omega arith
@@ -33,7 +33,7 @@ loop-less : tie.Need-loop-less Inv-loop μ-loop
 loop-less c = omega arith
 
 loop-again : tie.Need-loop-again Inv-loop μ-loop
-loop-again c = skip _ _ _ _ (c .before .before .before .before .loop .inv) (c .before .before .before .loop-test .taken) (c .before .is-faulty .ensures ∙ ap faulty (c .before .before .nth .ensures .0)) (c .if1 .left)
+loop-again c = skip _ _ _ _ (c .before .before .before .before .loop .inv) (c .before .before .before .loop-test .taken) (c .before .is-faulty .ensures ∙ ap faulty (c .before .before .bank-of .ensures .0)) (c .if1 .left)
 
 returns-2 : tie.Need-returns-2 Inv-loop μ-loop
 unfolding lowest
@@ -46,7 +46,7 @@ lowest-faulty-spec =
     Inv-loop
     μ-loop
     loop-holds
-    nth-requires
+    bank-of-requires
     is-faulty-requires
     returns
     add-n

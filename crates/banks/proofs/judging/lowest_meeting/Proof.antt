@@ -2,21 +2,22 @@ use Prim.Native.Nat.{_-_}
 use mathlib.Core.Path.{refl}
 use native.Mathlib.Omega.{arith}
 use Rattle.ranges.proofs.RangeLaws.{Looked, hit, skip, none}
+use Rattle.banks.specs.Setup.{setupOf}
 use Rattle.banks.specs.Judge.{meetsLower, lowestMeeting}
 use Rattle.banks.proofs.judging.lowest_meeting.Statement.{statement}
 use Rattle.banks.proofs.judging.lowest_meeting.Tie as tie
 
 abbrev Inv-loop : tie.InvT-loop
-Inv-loop s n₀ n = Looked (meetsLower s) 8 0 n
+Inv-loop r n₀ n = Looked (meetsLower (setupOf r)) 8 0 n
 
 abbrev μ-loop : tie.MeasureT-loop
-μ-loop s n₀ n = 8 - n
+μ-loop r n₀ n = 8 - n
 
 loop-holds : tie.Need-loop-holds Inv-loop μ-loop
 loop-holds c = (omega arith, refl)
 
 meets-lower-requires : tie.Need-meets-lower-requires Inv-loop μ-loop
-meets-lower-requires c κs = (c .before .before .pre, omega arith)
+meets-lower-requires c κs = omega arith
 
 returns : tie.Need-returns Inv-loop μ-loop
 unfolding lowestMeeting

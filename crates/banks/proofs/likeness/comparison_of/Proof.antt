@@ -1,5 +1,11 @@
 use borrow.Author.Tests.{le-leb, lt-leb}
+use mir.Syntax.{w8}
+use mir.Val.{Fits}
+use Prim.Native.Nat.{ℕ}
+use lib.ListN.{getD}
+use Rattle.banks.specs.Setup.{setupOf}
 use Rattle.banks.specs.Alike.{compared}
+use Rattle.banks.proofs.FieldLaws.{bounded}
 use Rattle.banks.proofs.AlikeLaws.{alike-first}
 use borrow.Author.Needs.{needs}
 use Rattle.banks.proofs.likeness.comparison_of.Statement.{statement}
@@ -18,15 +24,19 @@ returns : tie.Need-returns
 unfolding compared
 returns c =
     let a = c .before .before .before .before .before .args in
-    let p = c .before .before .before .before .before .pre in
-    simp (← c .before .before .before .before .is-ready .ensures, ← c .before .before .before .is-ready2 .ensures, c .before .before .if1 .taken, alike-first (a .s) (a .t) (p .0) (p .1), ← c .before .first-difference .ensures, le-leb _ _ (c .if2 .taken))
+    let x : (o : ℕ) → Fits w8 (getD (a .r .bytes) o 0) = λ o. search needs in
+    let y : (o : ℕ) → Fits w8 (getD (a .s .bytes) o 0) = λ o. search needs in
+    let e = alike-first (setupOf (a .r)) (setupOf (a .s)) (bounded (a .r) (λ o _. x o .fits)) (bounded (a .s) (λ o _. y o .fits)) in
+    simp (← c .before .before .before .before .is-ready .ensures, ← c .before .before .before .is-ready2 .ensures, c .before .before .if1 .taken, e, ← c .before .first-difference .ensures, le-leb _ _ (c .if2 .taken))
 
 returns-2 : tie.Need-returns-2
 unfolding compared
 returns-2 c =
     let a = c .before .before .before .before .before .args in
-    let p = c .before .before .before .before .before .pre in
-    simp (← c .before .before .before .before .is-ready .ensures, ← c .before .before .before .is-ready2 .ensures, c .before .before .if1 .taken, alike-first (a .s) (a .t) (p .0) (p .1), ← c .before .first-difference .ensures, lt-leb _ _ (c .if2 .left))
+    let x : (o : ℕ) → Fits w8 (getD (a .r .bytes) o 0) = λ o. search needs in
+    let y : (o : ℕ) → Fits w8 (getD (a .s .bytes) o 0) = λ o. search needs in
+    let e = alike-first (setupOf (a .r)) (setupOf (a .s)) (bounded (a .r) (λ o _. x o .fits)) (bounded (a .s) (λ o _. y o .fits)) in
+    simp (← c .before .before .before .before .is-ready .ensures, ← c .before .before .before .is-ready2 .ensures, c .before .before .if1 .taken, e, ← c .before .first-difference .ensures, lt-leb _ _ (c .if2 .left))
 
 returns-3 : tie.Need-returns-3
 unfolding compared

@@ -3,21 +3,22 @@ use mathlib.Core.Bool.{not}
 use mathlib.Core.Path.{refl, ap}
 use native.Mathlib.Omega.{arith}
 use Rattle.ranges.proofs.RangeLaws.{Looked, hit, skip, none}
+use Rattle.banks.specs.Setup.{setupOf}
 use Rattle.banks.specs.Megabyte.{sameMegabyte}
 use Rattle.banks.proofs.likeness.first_difference.Statement.{statement}
 use Rattle.banks.proofs.likeness.first_difference.Tie as tie
 
 abbrev Inv-loop : tie.InvT-loop
-Inv-loop s t m₀ m = Looked (λ k. not (sameMegabyte s t k)) 1024 0 m
+Inv-loop r s m₀ m = Looked (λ k. not (sameMegabyte (setupOf r) (setupOf s) k)) 1024 0 m
 
 abbrev μ-loop : tie.MeasureT-loop
-μ-loop s t m₀ m = 1024 - m
+μ-loop r s m₀ m = 1024 - m
 
 loop-holds : tie.Need-loop-holds Inv-loop μ-loop
 loop-holds c = (omega arith, refl)
 
 is-same-megabyte-requires : tie.Need-is-same-megabyte-requires Inv-loop μ-loop
-is-same-megabyte-requires c κs = (omega arith, c .before .before .pre .0, c .before .before .pre .1)
+is-same-megabyte-requires c κs = omega arith
 
 returns : tie.Need-returns Inv-loop μ-loop
 returns c = hit _ _ _ _ (c .before .before .before .loop .inv) (c .before .before .loop-test .taken) (ap not (c .before .is-same-megabyte .ensures)) (c .if1 .taken)

@@ -1,5 +1,6 @@
 use Rattle.banks.specs.Setup.{enabledOf, bankOf}
-use Rattle.banks.proofs.FieldLaws.{bounded-off}
+use Rattle.banks.proofs.FieldLaws.{bank-is, bounded-off}
+use native.Mathlib.Omega.{arith}
 use borrow.Author.Needs.{needs}
 use Rattle.banks.proofs.setup.bank_of.Statement.{statement}
 use Rattle.banks.proofs.setup.bank_of.Tie as tie
@@ -15,11 +16,15 @@ enabled-bank-requires c κs = search needs
 
 returns : tie.Need-returns
 unfolding bankOf enabledOf
-returns c = (simp (← c .before .before .before .byte .ensures, ← c .before .before .bit .ensures, c .before .if1 .taken, c .enabled-bank .ensures .0), c .enabled-bank .ensures .1)
+returns c =
+    let a = c .before .before .before .before .args in
+    (rw (bank-is (a .r) (a .n) (omega arith)) (simp (← c .before .before .before .byte .ensures, ← c .before .before .bit .ensures, c .before .if1 .taken, c .enabled-bank .ensures .0)), c .enabled-bank .ensures .1)
 
 returns-2 : tie.Need-returns-2
 unfolding bankOf enabledOf
-returns-2 c = (simp (← c .before .before .byte .ensures, ← c .before .bit .ensures, c .if1 .left), bounded-off)
+returns-2 c =
+    let a = c .before .before .before .args in
+    (rw (bank-is (a .r) (a .n) (omega arith)) (simp (← c .before .before .byte .ensures, ← c .before .bit .ensures, c .if1 .left)), bounded-off)
 
 pub bank-of-spec : {M : Type 1} → statement M
 bank-of-spec =
