@@ -1,6 +1,3 @@
-pub mod DigitLaws
-pub mod FormatLaws
-pub mod PrintLaws
 pub mod LineLaws
 pub mod TextLaws
 pub mod StepLaws

@@ -22,33 +22,13 @@ use Rattle.memory.specs.Access.{Access, read, write, flip, scrub, Given, Call, 
 use Rattle.memory.specs.Spans.{turnedAway, byArguments, byCount}
 use Rattle.memory.specs.Calls.{State, refusal, memoryCall, Effect, paperAnswer, leaves, effectOf, called}
 use Rattle.memory.proofs.CallLaws.{refusal-unready, refusal-ready, called-refused}
-use Rattle.lines.specs.declared.parse.Parsed.{Parsed}
-use Rattle.lines.specs.declared.parse.Request.{Request}
-use Rattle.lines.specs.Parsed.{asked, meant}
-use Rattle.lines.specs.Output.{writtenText, accessText, answerText}
-use Rattle.lines.specs.Format.{parse}
+use Rattle.format.specs.declared.request.Parsed.{Parsed}
+use Rattle.format.specs.declared.request.Request.{Request}
+use Rattle.format.specs.Parsed.{asked, meant}
+use Rattle.format.specs.Output.{writtenText, accessText, answerText}
+use Rattle.format.specs.Format.{parse}
 use Rattle.lines.specs.Line.{Printed, printedEffect, callOf, orMalformed, lineOf}
-use Rattle.lines.specs.Printed.{briefText, flippedText, dataText}
-
-pub write-text : (a : ℕ) (ws bs : List ℕ) (x : Answer) → accessText (write a ws) (paperAnswer x) bs ≡ briefText 0x77 x
-unfolding accessText answerText
-write-text a ws bs (Refused x) = refl
-write-text a ws bs (Done k) = refl
-
-pub scrub-text : (a : ℕ) (bs : List ℕ) (x : Answer) → accessText (scrub a) (paperAnswer x) bs ≡ briefText 0x73 x
-unfolding accessText answerText
-scrub-text a bs (Refused x) = refl
-scrub-text a bs (Done k) = refl
-
-pub flip-text : (a b : ℕ) (bs : List ℕ) (x : Answer) → accessText (flip a b) (paperAnswer x) bs ≡ flippedText x
-unfolding accessText answerText
-flip-text a b bs (Refused x) = refl
-flip-text a b bs (Done k) = refl
-
-pub read-text : (a n : ℕ) (bs : List ℕ) (x : Answer) → accessText (read a n) (paperAnswer x) bs ≡ dataText x bs
-unfolding accessText answerText
-read-text a n bs (Refused x) = refl
-read-text a n bs (Done k) = refl
+use Rattle.format.specs.Printed.{briefText}
 
 -- the buffer that a call was lent does not matter: a refused one prints no bytes
 pub any-buffer : (cols : List ℕ) (r : Registers) (cells : List ℕ) (x : Access) (b d : List ℕ)

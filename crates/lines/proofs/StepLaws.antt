@@ -11,26 +11,14 @@ use lib.Seq.{drop-drop, take-all, take-append-add, take-paste, drop-paste, lengt
 use borrow.Author.Tests.{ltb-true, ltb-false, le-leb, lt-leb}
 use Rattle.ranges.proofs.RangeLaws.{byCases}
 use Rattle.registers.specs.declared.Registers.{Registers}
-use Rattle.lines.specs.declared.print.Text.{Text}
-use Rattle.lines.specs.Printed.{bytesOf}
+use Rattle.format.specs.declared.text.Text.{Text}
+use Rattle.format.specs.Printed.{bytesOf}
+use Rattle.format.proofs.PrintLaws.{least-le, take-least}
 use Rattle.lines.specs.Line.{Printed, lineOf}
 use Rattle.memory.specs.Calls.{State}
 use Rattle.lines.specs.Text.{Fed, lineLength, fed, after, ended}
 use Rattle.lines.specs.Stepped.{kept, Put, Reached, stepOf}
 use Rattle.lines.proofs.TextLaws.{line-take, fed-line, fed-plain}
-
-pub least-le : (a b r : ℕ) → r ≡ cond (ltb a b) a b → (r ≤ a) × (r ≤ b)
-least-le a b r e =
-    byCases (ltb a b) (λ t. let f : r ≡ a = rw t at e in let h = ltb-true a b t in (omega arith, omega arith))
-    (λ t. let f : r ≡ b = rw t at e in let h = ltb-false a b t in (omega arith, omega arith))
-
-pub take-least : (k m : ℕ) (l : List ℕ) → m ≡ cond (ltb k (length l)) k (length l) → take m l ≡ take k l
-take-least k m l e =
-    byCases (ltb k (length l)) (λ t. let f : m ≡ k = rw t at e in rw f)
-    (λ t.
-    let f : m ≡ length l = rw t at e in
-    let h = ltb-false k (length l) t in
-    take-all m l (omega arith) ∙ sym (take-all k l h))
 
 pub extended-is : (bytes part : List ℕ) (len n more : ℕ) → length bytes ≡ 41 → n ≡ cond (ltb len 41) len 41
     → more ≡ cond (ltb (41 - n) (length part)) (41 - n) (length part) → take (n + more) (paste bytes n part more) ≡ take 41 (take len bytes ++ part)

@@ -11,10 +11,10 @@ use lib.Seq.{take-all, append-snoc, drop-cons}
 use borrow.Author.Tests.{ltb-true, ltb-false, eq-eqb, ne-eqb}
 use Rattle.ranges.proofs.RangeLaws.{byCases}
 use Rattle.memory.specs.Calls.{State}
-use Rattle.lines.specs.Format.{onto, parse}
+use Rattle.format.specs.Format.{onto, parse}
 use Rattle.lines.specs.Line.{Printed, lineOf}
 use Rattle.lines.specs.Text.{linesOf, joined, lineLength, Fed, printed, textOf, fedByte, fed, ended, chunked, after}
-use Rattle.lines.proofs.FormatLaws.{parse-long}
+use Rattle.format.proofs.FormatLaws.{parse-long}
 
 -- ---- 41 bytes tell a line
 

@@ -1,7 +1,3 @@
-pub mod Digits
-pub mod Format
-pub mod Parsed
-pub mod Output
 pub mod Line
 pub mod Text
 pub mod Stepped

@@ -7,8 +7,8 @@ use Rattle.registers.specs.declared.Registers.{Registers}
 use Rattle.control.specs.Calls.{readAt, declined, written}
 use Rattle.memory.specs.Access.{Access, Call, memory, readRegister, writeRegister}
 use Rattle.memory.specs.Calls.{State, Effect, called}
-use Rattle.lines.specs.Format.{parse}
-use Rattle.lines.specs.Output.{malformedText, writtenText, readingText, accessText}
+use Rattle.format.specs.Format.{parse}
+use Rattle.format.specs.Output.{malformedText, writtenText, readingText, accessText}
 
 -- the bytes printed, LF included, with the record and the cells after
 abbrev pub Printed : Type 0

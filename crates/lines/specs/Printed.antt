@@ -1,33 +1,11 @@
--- What the code's output lines hold.
+-- What the code's lines leave.
 -- Assumes nothing.
 use Prim.Native.Nat.{ℕ}
-use mathlib.Core.List.{List, [], _∷_}
-use lib.ListN.{take, getD}
-use Rattle.refusals.specs.Paper.{paper}
-use Rattle.memory.specs.declared.Answer.{Answer}
-use Rattle.memory.specs.declared.Answer.the-variants.{Refused, Done}
-use Rattle.lines.specs.declared.print.Text.{Text}
+use mathlib.Core.List.{List}
+use Rattle.format.specs.Printed.{bytesOf}
 use Rattle.lines.specs.declared.line.Lined.{Lined}
-use Rattle.lines.specs.Digits.{hexPairs}
-use Rattle.lines.specs.Output.{refusedText, acceptedText, kindLetter}
 use Rattle.lines.specs.Line.{Printed}
-
-abbrev pub bytesOf : Text → List ℕ
-bytesOf t = take (t .len) (t .bytes)
 
 -- with the cells as a line leaves them
 abbrev pub lined : Lined → List ℕ → Printed
 lined x cells = (bytesOf (x .text), record { registers = x .registers; cells = cells })
-
--- the answers of the memory calls: of a write or a scrub, of a flip, of a read
-abbrev pub briefText : ℕ → Answer → List ℕ
-briefText l (Refused x) = refusedText l (getD (paper x) 0 0)
-briefText l (Done k) = acceptedText l (0x2C ∷ kindLetter k ∷ [])
-
-abbrev pub flippedText : Answer → List ℕ
-flippedText (Refused x) = refusedText 0x66 (getD (paper x) 0 0)
-flippedText (Done k) = acceptedText 0x66 []
-
-abbrev pub dataText : Answer → List ℕ → List ℕ
-dataText (Refused x) bs = refusedText 0x72 (getD (paper x) 0 0)
-dataText (Done k) bs = acceptedText 0x72 (0x2C ∷ kindLetter k ∷ 0x2C ∷ hexPairs bs)

@@ -8,7 +8,7 @@ use lib.Dec.{leb}
 use lib.ListN.{length, take, drop}
 use Rattle.registers.specs.declared.Registers.{Registers}
 use Rattle.memory.specs.Calls.{State}
-use Rattle.lines.specs.declared.feed.Carry.{Carry}
+use Rattle.lines.specs.declared.buffers.Carry.{Carry}
 use Rattle.lines.specs.declared.feed.Stepped.{Stepped}
 use Rattle.lines.specs.Text.{Fed, fed, after}
 

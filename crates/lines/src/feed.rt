@@ -1,26 +1,21 @@
 // A text in chunks of any length: what is kept between them, and what each prints.
 ghost use mathlib.Core.Path.{_≡_};
 ghost use Prim.Native.Nat.{_+_, _*_, _-_, _≤_};
-ghost use mathlib.Core.Bool.{cond};
-ghost use lib.Dec.{ltb};
-ghost use mathlib.Core.List.{[], _++_};
 ghost use lib.ListN.{length, take, drop};
-ghost use lib.Seq.{paste};
 ghost use Rattle.ecc.specs.Columns.{columns};
-ghost use Rattle.lines.specs.Text.{lineLength, fed, after, ended};
+ghost use Rattle.lines.specs.Text.{lineLength, ended};
 ghost use Rattle.lines.specs.Line.{lineOf};
-ghost use Rattle.lines.specs.Printed.{bytesOf, lined};
-ghost use Rattle.lines.specs.Stepped.{carriedOf, kept, Put, Reached, stepOf, left};
+ghost use Rattle.lines.specs.Printed.{lined};
+ghost use Rattle.lines.specs.Stepped.{carriedOf, kept, Reached, stepOf, left};
+use crate::buffers::Carry;
+use crate::buffers::joined;
+use crate::buffers::least;
+use crate::buffers::line_end;
+use crate::buffers::put;
 use crate::line::Lined;
 use crate::line::execute;
-use crate::print::Text;
+use format::Text;
 use registers::Registers;
-
-// The bytes since the last LF: 41 of them tell a line that is too long.
-pub struct Carry {
-    pub bytes: [u8; 41],
-    pub len: usize,
-}
 
 // What a chunk leaves, and how many bytes it wrote; nothing is changed where it is not taken.
 pub struct Stepped {
@@ -35,53 +30,6 @@ pub struct Progress {
     pub registers: Registers,
     pub from: usize,
     pub at: usize,
-}
-
-// The place of the first LF from a place on, or the length.
-fn line_end(chunk: &[u8], from: usize) -> usize
-    requires { ⌜ from ≤ length (now chunk) ⌝ }
-    ensures { λ r. ⌜ (r ≡ from + lineLength (drop from (now (chunk .entry)))) × (r ≤ length (now (chunk .entry))) ⌝ }
-{
-    let mut i = from;
-    while i < chunk.len() {
-        if chunk[i] == 0x0a {
-            return i;
-        }
-        i += 1;
-    }
-    i
-}
-
-// The first n bytes of src, put into dst from a place on.
-fn copy(src: &[u8], n: usize, dst: &mut [u8], at: usize)
-    requires { ⌜ (n ≤ length (now src)) × (at + n ≤ length (now dst)) ⌝ }
-    ensures { λ _. ⌜ now (dst .exit) ≡ paste (now (dst .entry)) at (now (src .entry)) n ⌝ }
-{
-    let mut i: usize = 0;
-    while i < n {
-        dst[at + i] = src[i];
-        i += 1;
-    }
-}
-
-fn least(a: usize, b: usize) -> usize
-    ensures { λ r. ⌜ r ≡ cond (ltb a b) a b ⌝ }
-{
-    if a < b { a } else { b }
-}
-
-// The first `len` of these bytes, and those of a part after them, as far as 41 go.
-fn joined(start: [u8; 41], len: usize, part: &[u8]) -> Carry
-    ensures { λ r. ⌜ (carriedOf r ≡ take 41 (take len start ++ now (part .entry))) × (length (take len start) ≤ 41) ⌝ }
-{
-    let mut bytes = start;
-    let n = least(len, 41);
-    let more = least(41 - n, part.len());
-    copy(part, more, &mut bytes, n);
-    Carry {
-        bytes: bytes,
-        len: n + more,
-    }
 }
 
 // The line in the first `len` of these bytes.
@@ -108,25 +56,6 @@ fn last_in(registers: Registers, cells: &mut [u8], bytes: [u8; 41], len: usize) 
         };
     }
     line_in(registers, cells, bytes, len)
-}
-
-// The first n of these bytes, put into the output from a place on.
-fn put_bytes(out: &mut [u8], at: usize, bytes: [u8; 24], n: usize)
-    requires { ⌜ (at + 24 ≤ length (now out)) × (n ≤ 24) ⌝ }
-    ensures { λ _. ⌜ Put (now (out .entry)) at (take n bytes) (now (out .exit)) (at + n) ⌝ }
-{
-    copy(&bytes, n, out, at);
-}
-
-// An output line put into the output from a place on.
-fn put(out: &mut [u8], at: usize, text: Text) -> usize
-    requires { ⌜ (at + 24 ≤ length (now out)) × (text .len ≤ 24) ⌝ }
-    ensures { λ r. ⌜ Put (now (out .entry)) at (bytesOf text) (now (out .exit)) r ⌝ }
-{
-    let bytes = text.bytes;
-    let n = text.len;
-    put_bytes(out, at, bytes, n);
-    at + n
 }
 
 // The whole lines of a chunk from a place on, which follows an LF.

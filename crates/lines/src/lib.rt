@@ -1,15 +1,11 @@
-// The line format of the program `busline`: a line parsed, executed and printed.
-mod bytes;
-mod digits;
+// The lines of the program `busline` executed: one line, and a text that comes in chunks.
+mod buffers;
 mod feed;
 mod line;
-mod parse;
-mod print;
 
-pub use feed::Carry;
+pub use buffers::Carry;
 pub use feed::Stepped;
 pub use feed::finish;
 pub use feed::step;
 pub use line::Lined;
 pub use line::execute;
-pub use print::Text;

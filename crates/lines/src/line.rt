@@ -2,21 +2,17 @@
 ghost use mathlib.Core.Path.{_≡_};
 ghost use Prim.Native.Nat.{ℕ, _≤_, _<_};
 ghost use mathlib.Core.List.{List, [], _∷_};
-ghost use lib.ListN.{length};
 ghost use Rattle.ecc.specs.Columns.{columns};
 ghost use Rattle.control.specs.Calls.{readAt};
 ghost use Rattle.memory.specs.Access.{read, write, flip, scrub, writeRegister};
 ghost use Rattle.memory.specs.Calls.{called};
-ghost use Rattle.lines.specs.Output.{readingText};
+ghost use Rattle.format.specs.Output.{readingText};
 ghost use Rattle.lines.specs.Line.{callOf, lineOf, printedEffect};
-ghost use Rattle.lines.specs.Printed.{bytesOf, lined, briefText, dataText, flippedText};
-use crate::parse::Request;
-use crate::parse::parse;
-use crate::print;
-use crate::print::Text;
-use control::Reading;
-use memory::Answer;
-use refusals::Verdict;
+ghost use Rattle.format.specs.Printed.{bytesOf};
+ghost use Rattle.lines.specs.Printed.{lined};
+use format::Request;
+use format::Text;
+use format::print;
 use registers::Registers;
 
 // What a line leaves of the record, and its output line.
@@ -33,15 +29,10 @@ fn set_line(registers: Registers, offset: u8, value: u8) -> Lined
     let written = control::write(registers, offset, value);
     let after = written.registers;
     let verdict = written.verdict;
-    match verdict {
-        Verdict::Accepted => Lined {
-            registers: after,
-            text: print::accepted(0x63),
-        },
-        Verdict::Refused(x) => Lined {
-            registers: after,
-            text: print::refused(0x63, refusals::number(x)),
-        },
+    let text = print::written(verdict);
+    Lined {
+        registers: after,
+        text: text,
     }
 }
 
@@ -50,45 +41,7 @@ fn get_line(registers: Registers, offset: u8) -> Text
     ensures { λ r. ⌜ bytesOf r ≡ readingText (readAt registers offset) ⌝ }
     ensures { λ r. ⌜ r .len ≤ 24 ⌝ }
 {
-    let reading = control::read(registers, offset);
-    match reading {
-        Reading::Refused(x) => print::refused(0x67, refusals::number(x)),
-        Reading::Value(v) => print::value(v),
-    }
-}
-
-// The answer of a write or a scrub.
-fn brief(letter: u8, answer: Answer) -> Text
-    ensures { λ r. ⌜ bytesOf r ≡ briefText letter answer ⌝ }
-    ensures { λ r. ⌜ r .len ≤ 24 ⌝ }
-{
-    match answer {
-        Answer::Refused(x) => print::refused(letter, refusals::number(x)),
-        Answer::Done(kind) => print::answer(letter, kind),
-    }
-}
-
-// The answer of a flip: only that it was accepted.
-fn flipped(answer: Answer) -> Text
-    ensures { λ r. ⌜ bytesOf r ≡ flippedText answer ⌝ }
-    ensures { λ r. ⌜ r .len ≤ 24 ⌝ }
-{
-    match answer {
-        Answer::Refused(x) => print::refused(0x66, refusals::number(x)),
-        Answer::Done(_) => print::accepted(0x66),
-    }
-}
-
-// The answer of a read, and its bytes.
-fn with_data(answer: Answer, buffer: &[u8]) -> Text
-    requires { ⌜ length (now buffer) ≤ 8 ⌝ }
-    ensures { λ r. ⌜ bytesOf r ≡ dataText answer (now (buffer .entry)) ⌝ }
-    ensures { λ r. ⌜ r .len ≤ 24 ⌝ }
-{
-    match answer {
-        Answer::Refused(x) => print::refused(0x72, refusals::number(x)),
-        Answer::Done(kind) => print::data(kind, buffer),
-    }
+    print::reading(control::read(registers, offset))
 }
 
 // `w`
@@ -99,7 +52,7 @@ fn write_line(registers: Registers, cells: &mut [u8], address: u32, bytes: &[u8]
     let done = memory::write(registers, cells, address, bytes);
     let after = done.registers;
     let answer = done.answer;
-    let text = brief(0x77, answer);
+    let text = print::brief(0x77, answer);
     Lined {
         registers: after,
         text: text,
@@ -114,7 +67,7 @@ fn flip_line(registers: Registers, cells: &mut [u8], address: u32, bit: u8) -> L
     let done = memory::flip(registers, cells, address, bit);
     let after = done.registers;
     let answer = done.answer;
-    let text = flipped(answer);
+    let text = print::flipped(answer);
     Lined {
         registers: after,
         text: text,
@@ -129,23 +82,25 @@ fn scrub_line(registers: Registers, cells: &mut [u8], address: u32) -> Lined
     let done = memory::scrub(registers, cells, address);
     let after = done.registers;
     let answer = done.answer;
-    let text = brief(0x73, answer);
+    let text = print::brief(0x73, answer);
     Lined {
         registers: after,
         text: text,
     }
 }
 
-// `r` of as many bytes as the buffer has.
-fn read_into(registers: Registers, cells: &[u8], address: u32, buffer: &mut [u8]) -> Lined
-    requires { ⌜ length (now buffer) ≤ 8 ⌝ }
-    ensures { λ r. ⌜ lined r (now (cells .entry)) ≡ printedEffect (read address (length (now (buffer .entry)))) (called columns registers (now (cells .entry)) (read address (length (now (buffer .entry)))) []) ⌝ }
+// `r` of at most 8 bytes.
+fn read_short(registers: Registers, cells: &[u8], address: u32, count: u8) -> Lined
+    requires { ⌜ count ≤ 8 ⌝ }
+    ensures { λ r. ⌜ lined r (now (cells .entry)) ≡ printedEffect (read address count) (called columns registers (now (cells .entry)) (read address count) []) ⌝ }
     ensures { λ r. ⌜ r .text .len ≤ 24 ⌝ }
 {
-    let done = memory::read(registers, cells, address, buffer);
+    let mut buffer = [0u8; 8];
+    let n = count as usize;
+    let done = memory::read(registers, cells, address, &mut buffer[..n]);
     let after = done.registers;
     let answer = done.answer;
-    let text = with_data(answer, buffer);
+    let text = print::data(answer, buffer, n);
     Lined {
         registers: after,
         text: text,
@@ -162,7 +117,7 @@ fn read_long(registers: Registers, cells: &[u8], address: u32, count: u8) -> Lin
     let done = memory::read(registers, cells, address, &mut buffer);
     let after = done.registers;
     let answer = done.answer;
-    let text = brief(0x72, answer);
+    let text = print::brief(0x72, answer);
     Lined {
         registers: after,
         text: text,
@@ -177,9 +132,7 @@ fn read_line(registers: Registers, cells: &[u8], address: u32, count: u8) -> Lin
     if 8 < count {
         return read_long(registers, cells, address, count);
     }
-    let mut buffer = [0u8; 8];
-    let n = count as usize;
-    read_into(registers, cells, address, &mut buffer[..n])
+    read_short(registers, cells, address, count)
 }
 
 // One line, without its LF: its output line, and what it leaves of the record and the cells.
@@ -187,12 +140,12 @@ pub fn execute(registers: Registers, cells: &mut [u8], line: &[u8]) -> Lined
     ensures { λ r. ⌜ lined r (now (cells .exit)) ≡ lineOf columns (record { registers = registers; cells = now (cells .entry) }) (now (line .entry)) ⌝ }
     ensures { λ r. ⌜ r .text .len ≤ 24 ⌝ }
 {
-    let parsed = parse(line);
+    let parsed = format::parse(line);
     let request = parsed.request;
     match request {
         Request::Malformed => Lined {
             registers: registers,
-            text: print::refused(0x3f, 18),
+            text: print::malformed(),
         },
         Request::SetRegister(offset, value) => set_line(registers, offset, value),
         Request::GetRegister(offset) => Lined {

@@ -4,7 +4,8 @@ use lib.ListN.{length}
 use lib.Seq.{length-take-le}
 use Rattle.ecc.specs.Columns.{columns}
 use Rattle.lines.specs.Line.{lineOf}
-use Rattle.lines.proofs.StepLaws.{least-le, take-41}
+use Rattle.format.proofs.PrintLaws.{least-le}
+use Rattle.lines.proofs.StepLaws.{take-41}
 use borrow.Author.Needs.{needs}
 use Rattle.lines.proofs.feed.line_in.Statement.{statement}
 use Rattle.lines.proofs.feed.line_in.Tie as tie

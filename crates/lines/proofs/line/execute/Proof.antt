@@ -3,7 +3,6 @@ use lib.Seq.{length-take-le}
 use mathlib.Core.Path.{sym, ap, _∙_}
 use mathlib.Core.List.{List}
 use Prim.Native.Nat.{ℕ}
-use Rattle.lines.specs.Output.{malformedText}
 use Rattle.lines.specs.Line.{orMalformed, callOf}
 use Rattle.lines.proofs.LineLaws.{executed, told}
 use borrow.Author.Needs.{needs}
@@ -16,8 +15,8 @@ parse-requires c κs = search needs
 enum-told : tie.Need-enum-told
 enum-told c = search needs
 
-refused-requires : tie.Need-refused-requires
-refused-requires c κs = search needs
+malformed-requires : tie.Need-malformed-requires
+malformed-requires c κs = search needs
 
 enum-known-request : tie.Need-enum-known-request
 enum-known-request c = search needs
@@ -62,8 +61,8 @@ scrub-line-requires : tie.Need-scrub-line-requires
 scrub-line-requires c κs = search needs
 
 returns : tie.Need-returns
-unfolding orMalformed malformedText
-returns c = (told _ _ _ _ (c .refused .ensures .0) ∙ sym (executed _ _ _ (c .before .before .before .parse .result) _ (c .before .before .before .parse .ensures .0) (c .before .enum-told .given .1)), c .refused .ensures .1)
+unfolding orMalformed
+returns c = (told _ _ _ _ (c .malformed .ensures .0) ∙ sym (executed _ _ _ (c .before .before .before .parse .result) _ (c .before .before .before .parse .ensures .0) (c .before .enum-told .given .1)), c .malformed .ensures .1)
 
 returns-2 : tie.Need-returns-2
 unfolding orMalformed
@@ -107,7 +106,7 @@ execute-spec =
     (tie.spec
     parse-requires
     enum-told
-    refused-requires
+    malformed-requires
     enum-known-request
     set-line-requires
     enum-known-request-2

@@ -1,9 +1,10 @@
 use mathlib.Core.Path.{refl, sym, ap, _∙_}
-use Rattle.lines.specs.Output.{refusedText}
+use Rattle.format.specs.Output.{refusedText}
 use mathlib.Core.List.{[]}
 use Rattle.memory.specs.Access.{flip}
 use Rattle.memory.specs.Calls.{flipCall}
-use Rattle.lines.proofs.LineLaws.{effect-line, flip-text}
+use Rattle.format.proofs.PrintLaws.{flip-text}
+use Rattle.lines.proofs.LineLaws.{effect-line}
 use borrow.Author.Needs.{needs}
 use Rattle.lines.proofs.line.flip_line.Statement.{statement}
 use Rattle.lines.proofs.line.flip_line.Tie as tie

@@ -1,6 +1,5 @@
-use mathlib.Core.Path.{refl, sym, ap, _∙_}
-use Rattle.lines.specs.Output.{refusedText}
-use Rattle.lines.specs.Output.{readingText}
+use mathlib.Core.Path.{ap, _∙_}
+use Rattle.format.specs.Output.{readingText}
 use borrow.Author.Needs.{needs}
 use Rattle.lines.proofs.line.get_line.Statement.{statement}
 use Rattle.lines.proofs.line.get_line.Tie as tie
@@ -8,38 +7,11 @@ use Rattle.lines.proofs.line.get_line.Tie as tie
 read-requires : tie.Need-read-requires
 read-requires c κs = search needs
 
-enum-known-reading : tie.Need-enum-known-reading
-enum-known-reading c = search needs
-
-number-requires : tie.Need-number-requires
-number-requires c κs = search needs
-
-refused-requires : tie.Need-refused-requires
-refused-requires c κs = search needs
-
-enum-known-reading-2 : tie.Need-enum-known-reading-2
-enum-known-reading-2 c = search needs
-
-value-requires : tie.Need-value-requires
-value-requires c κs = search needs
+reading-requires : tie.Need-reading-requires
+reading-requires c κs = search needs
 
 returns : tie.Need-returns
-unfolding readingText
-returns c = (rw (← c .before .before .before .before .before .read .ensures, c .before .before .before .reading .given .1) (c .refused .ensures .0 ∙ ap (refusedText 0x67) (c .before .number .ensures)), c .refused .ensures .1)
-
-returns-2 : tie.Need-returns-2
-unfolding readingText
-returns-2 c = (rw (← c .before .before .before .before .read .ensures, c .before .before .reading2 .given .1) (c .value .ensures .0), c .value .ensures .1)
+returns c = (c .reading .ensures .0 ∙ ap readingText (c .before .read .ensures), c .reading .ensures .1)
 
 pub get-line-spec : {M : Type 1} → statement M
-get-line-spec =
-    tie.close
-    (tie.spec
-    read-requires
-    enum-known-reading
-    number-requires
-    refused-requires
-    enum-known-reading-2
-    value-requires
-    returns
-    returns-2)
+get-line-spec = tie.close (tie.spec read-requires reading-requires returns)

@@ -1,9 +1,10 @@
 use mathlib.Core.Path.{refl, sym, ap, _∙_}
-use Rattle.lines.specs.Output.{refusedText}
+use Rattle.format.specs.Output.{refusedText}
 use mathlib.Core.List.{[]}
 use Rattle.memory.specs.Access.{write}
 use Rattle.memory.specs.Calls.{writeCall}
-use Rattle.lines.proofs.LineLaws.{effect-line, write-text}
+use Rattle.format.proofs.PrintLaws.{write-text}
+use Rattle.lines.proofs.LineLaws.{effect-line}
 use borrow.Author.Needs.{needs}
 use Rattle.lines.proofs.line.write_line.Statement.{statement}
 use Rattle.lines.proofs.line.write_line.Tie as tie

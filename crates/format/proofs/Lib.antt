@@ -1,0 +1,6 @@
+pub mod DigitLaws
+pub mod ByteLaws
+pub mod PlainLaws
+pub mod FieldLaws
+pub mod FormatLaws
+pub mod PrintLaws
