@@ -2,6 +2,7 @@ pub mod Shifts
 pub mod Window
 pub mod CommonLaws
 pub mod FieldLaws
+pub mod TakenLaws
 pub mod StoreLaws
 pub mod SpanLaws
 pub mod AcceptedLaws

@@ -1,4 +1,5 @@
 pub mod Setup
+pub mod Fields
 pub mod Judge
 pub mod Map
 pub mod WayBack

@@ -52,33 +52,39 @@ pub enum Comparison {
 pub fn is_on(r: Registers) -> bool
     ensures { λ t. ⌜ t ≡ setupOf r .on ⌝ }
 {
-    setup::memory_on(r)
+    let fields = setup::fields_of(r);
+    setup::memory_on(&fields)
 }
 
 // What switching the record on gets.
 pub fn judge(r: Registers) -> Verdict
     ensures { λ v. ⌜ paperVerdict v ≡ judged (setupOf r) ⌝ }
 {
-    judging::verdict(r)
+    let fields = setup::fields_of(r);
+    judging::verdict(&fields)
 }
 
 // Bank, row, column and cell number of an address.
 pub fn map(r: Registers, address: u32) -> Mapping
     ensures { λ m. ⌜ paperMapping m ≡ mapped (setupOf r) address ⌝ }
 {
-    addressing::map_address(r, address)
+    let fields = setup::fields_of(r);
+    addressing::map_address(&fields, address)
 }
 
 // The address of the doubleword at a row and a column of a bank.
 pub fn way_back(r: Registers, bank: u8, row: Row, column: Column) -> Origin
     ensures { λ x. ⌜ paperBack x ≡ back (setupOf r) bank row column ⌝ }
 {
-    inverse::origin_of(r, bank, row, column)
+    let fields = setup::fields_of(r);
+    inverse::origin_of(&fields, bank, row, column)
 }
 
 // Whether every address has the same bank, row and column, or no bank, in both records.
 pub fn compare(r: Registers, s: Registers) -> Comparison
     ensures { λ x. ⌜ paperComparison x ≡ compared (setupOf r) (setupOf s) ⌝ }
 {
-    likeness::comparison_of(r, s)
+    let fields = setup::fields_of(r);
+    let others = setup::fields_of(s);
+    likeness::comparison_of(&fields, &others)
 }

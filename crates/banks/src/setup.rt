@@ -1,9 +1,12 @@
-// The fields of the eight banks, taken out of the register bytes by shifts and masks.
+// The fields of the eight banks. They are taken out of the register bytes once, by shifts and masks, into an array of 19 numbers that is
+// lent to every function: eight starts, eight last megabytes, the enable bits, the row codes, and the byte that switches memory on. A record
+// or a struct of banks would be copied at each call, and a bank read from the bytes anew each time it is wanted.
 ghost use mathlib.Core.Path.{_≡_};
 ghost use Prim.Native.Nat.{_+_, _*_, _/_, _%_, _^_, _≤_, _<_};
 ghost use lib.Dec.{eqb};
-ghost use Rattle.registers.specs.Record.{at};
-ghost use Rattle.banks.specs.Setup.{Bounded, megabytes, fits, columnBits, enabledBank, setupOf, bank};
+ghost use lib.ListN.{getD};
+ghost use Rattle.banks.specs.Setup.{Bounded, megabytes, fits, columnBits, setupOf, bank};
+ghost use Rattle.banks.specs.Fields.{Sound, fieldsOf, enabledIn, setupIn};
 use registers::Registers;
 
 pub struct Bank {
@@ -14,29 +17,83 @@ pub struct Bank {
     pub columns: u32,
 }
 
-// Bits shift and shift + 1 of a byte.
-fn two_bits(byte: u8, shift: u8) -> u8
-    requires { ⌜ shift < 8 ⌝ }
-    ensures { λ r. ⌜ r ≡ byte / 2 ^ shift % 4 ⌝ }
+// Bits n and n + 1 of a number.
+fn two_bits(x: u16, n: u8) -> u16
+    requires { ⌜ n < 16 ⌝ }
+    ensures { λ r. ⌜ r ≡ x / 2 ^ n % 4 ⌝ }
 {
-    byte >> shift & 3
+    x >> n & 3
 }
 
-// Bit n of a byte.
-fn bit(byte: u8, n: u8) -> bool
-    requires { ⌜ n < 8 ⌝ }
-    ensures { λ r. ⌜ r ≡ eqb (byte / 2 ^ n % 2) 1 ⌝ }
+// Bit n of a number.
+fn bit(x: u16, n: u8) -> bool
+    requires { ⌜ n < 16 ⌝ }
+    ensures { λ r. ⌜ r ≡ eqb (x / 2 ^ n % 2) 1 ⌝ }
 {
-    byte >> n & 1 == 1
+    x >> n & 1 == 1
 }
 
 // A megabyte number of ten bits.
-fn ten_bits(low: u8, extended: u8) -> u32
+fn ten_bits(low: u8, extended: u8) -> u16
     ensures { λ r. ⌜ r ≡ low + 256 * (extended % 4) ⌝ }
     ensures bound { λ r. ⌜ r < 1024 ⌝ }
 {
-    let high = two_bits(extended, 0);
-    low as u32 + ((high as u32) << 8)
+    let high = two_bits(extended as u16, 0);
+    low as u16 + (high << 8)
+}
+
+// The megabyte number with its low byte at the offset and its extended byte eight further on.
+fn megabyte(bytes: &[u8; 256], offset: u8) -> u16
+    requires { ⌜ offset < 0xF8 ⌝ }
+    ensures { λ r. ⌜ r ≡ getD (now (bytes .entry)) offset 0 + 256 * (getD (now (bytes .entry)) (offset + 8) 0 % 4) ⌝ }
+    ensures bound { λ r. ⌜ r < 1024 ⌝ }
+{
+    ten_bits(bytes[offset as usize], bytes[(offset + 8) as usize])
+}
+
+// Two bytes as one number.
+fn joined(low: u8, high: u8) -> u16
+    ensures { λ r. ⌜ r ≡ low + 256 * high ⌝ }
+{
+    low as u16 + ((high as u16) << 8)
+}
+
+fn fields_in(bytes: &[u8; 256]) -> [u16; 19]
+    ensures { λ f. ⌜ f ≡ fieldsOf (record { bytes = now (bytes .entry) }) ⌝ }
+    ensures bound { λ f. ⌜ Sound f ⌝ }
+{
+    [
+        megabyte(bytes, registers::START),
+        megabyte(bytes, registers::START + 1),
+        megabyte(bytes, registers::START + 2),
+        megabyte(bytes, registers::START + 3),
+        megabyte(bytes, registers::START + 4),
+        megabyte(bytes, registers::START + 5),
+        megabyte(bytes, registers::START + 6),
+        megabyte(bytes, registers::START + 7),
+        megabyte(bytes, registers::END),
+        megabyte(bytes, registers::END + 1),
+        megabyte(bytes, registers::END + 2),
+        megabyte(bytes, registers::END + 3),
+        megabyte(bytes, registers::END + 4),
+        megabyte(bytes, registers::END + 5),
+        megabyte(bytes, registers::END + 6),
+        megabyte(bytes, registers::END + 7),
+        joined(bytes[registers::BANK_ENABLE as usize], 0),
+        joined(
+            bytes[registers::ROW_CODES as usize],
+            bytes[registers::ROW_CODES as usize + 1],
+        ),
+        joined(bytes[registers::MEMORY as usize], 0),
+    ]
+}
+
+pub(crate) fn fields_of(r: Registers) -> [u16; 19]
+    ensures { λ f. ⌜ setupIn f ≡ setupOf r ⌝ }
+    ensures bound { λ f. ⌜ Sound f ⌝ }
+{
+    let bytes = r.bytes;
+    fields_in(&bytes)
 }
 
 // The span of a bank in megabytes; none where its start is above its end.
@@ -50,10 +107,10 @@ pub(crate) fn length(start: u32, last: u32) -> u32
 
 // So many megabytes have room in these rows and columns.
 pub(crate) fn has_room(rows: u32, columns: u32, length: u32) -> bool
-    requires { ⌜ (rows + columns < 32) × (length ≤ 1024) ⌝ }
+    requires { ⌜ (17 ≤ rows + columns) × (rows + columns < 32) ⌝ }
     ensures { λ r. ⌜ r ≡ fits rows length columns ⌝ }
 {
-    (length as u64) << 20 <= 1u64 << (rows + columns + 3)
+    length <= 1u32 << (rows + columns - 17)
 }
 
 fn column_bits(rows: u32, length: u32) -> u32
@@ -69,20 +126,14 @@ fn column_bits(rows: u32, length: u32) -> u32
     rows
 }
 
-fn enabled_bank(r: Registers, n: u8) -> Bank
-    requires { ⌜ n < 8 ⌝ }
-    ensures { λ b. ⌜ b ≡ enabledBank r n ⌝ }
+fn enabled_bank(fields: &[u16; 19], n: u8) -> Bank
+    requires { ⌜ Sound (now fields) × (n < 8) ⌝ }
+    ensures { λ b. ⌜ b ≡ enabledIn (now (fields .entry)) n ⌝ }
     ensures bound { λ b. ⌜ Bounded b ⌝ }
 {
-    let start = ten_bits(
-        r.byte(registers::START + n),
-        r.byte(registers::START_EXTENDED + n),
-    );
-    let last = ten_bits(
-        r.byte(registers::END + n),
-        r.byte(registers::END_EXTENDED + n),
-    );
-    let code = two_bits(r.byte(registers::ROW_CODES + n / 4), n % 4 * 2);
+    let start = fields[n as usize] as u32;
+    let last = fields[(8 + n) as usize] as u32;
+    let code = two_bits(fields[17], 2 * n);
     let rows = 9 + code as u32;
     Bank {
         enabled: true,
@@ -93,14 +144,13 @@ fn enabled_bank(r: Registers, n: u8) -> Bank
     }
 }
 
-// Bank n, read from the record wherever it is wanted: copies of eight decoded banks cost more than reading one again.
-pub(crate) fn bank_of(r: Registers, n: u8) -> Bank
-    requires { ⌜ n < 8 ⌝ }
-    ensures { λ b. ⌜ b ≡ bank (setupOf r) n ⌝ }
+pub(crate) fn bank_of(fields: &[u16; 19], n: u8) -> Bank
+    requires { ⌜ Sound (now fields) × (n < 8) ⌝ }
+    ensures { λ b. ⌜ b ≡ bank (setupIn (now (fields .entry))) n ⌝ }
     ensures bound { λ b. ⌜ Bounded b ⌝ }
 {
-    if bit(r.byte(registers::BANK_ENABLE), n) {
-        return enabled_bank(r, n);
+    if bit(fields[16], n) {
+        return enabled_bank(fields, n);
     }
     Bank {
         enabled: false,
@@ -111,8 +161,8 @@ pub(crate) fn bank_of(r: Registers, n: u8) -> Bank
     }
 }
 
-pub(crate) fn memory_on(r: Registers) -> bool
-    ensures { λ t. ⌜ t ≡ setupOf r .on ⌝ }
+pub(crate) fn memory_on(fields: &[u16; 19]) -> bool
+    ensures { λ t. ⌜ t ≡ setupIn (now (fields .entry)) .on ⌝ }
 {
-    bit(r.byte(registers::MEMORY), 3)
+    bit(fields[18], 3)
 }
