@@ -1,6 +1,6 @@
 // From address to cell.
 ghost use mathlib.Core.Path.{_≡_};
-ghost use Prim.Native.Nat.{_+_, _*_, _/_, _%_, _^_, _≤_, _<_};
+ghost use Prim.Native.Nat.{_+_, _/_, _^_, _≤_, _<_};
 ghost use Rattle.banks.specs.Setup.{Bounded, bank};
 ghost use Rattle.banks.specs.Fields.{Sound, setupIn};
 ghost use Rattle.banks.specs.Map.{paperMapping, holds, bankAt, cells, share, cellsBelow, wordOf, placeOf, mapped};

@@ -9,6 +9,13 @@ ghost use Rattle.banks.specs.Setup.{Bounded, megabytes, fits, columnBits
 ghost use Rattle.banks.specs.Fields.{Sound, fieldsOf, enabledIn, setupIn};
 use registers::Registers;
 
+// Where the three numbers that follow the starts and the last megabytes stand.
+const ENABLE: usize = 16;
+
+const CODES: usize = 17;
+
+const MEMORY: usize = 18;
+
 pub struct Bank {
     pub enabled: bool,
     pub start: u32,
@@ -133,7 +140,7 @@ fn enabled_bank(fields: &[u16; 19], n: u8) -> Bank
 {
     let start = fields[n as usize] as u32;
     let last = fields[(8 + n) as usize] as u32;
-    let code = two_bits(fields[17], 2 * n);
+    let code = two_bits(fields[CODES], 2 * n);
     let rows = 9 + code as u32;
     Bank {
         enabled: true,
@@ -149,7 +156,7 @@ pub(crate) fn bank_of(fields: &[u16; 19], n: u8) -> Bank
     ensures { λ b. ⌜ b ≡ bank (setupIn (now (fields .entry))) n ⌝ }
     ensures bound { λ b. ⌜ Bounded b ⌝ }
 {
-    if bit(fields[16], n) {
+    if bit(fields[ENABLE], n) {
         return enabled_bank(fields, n);
     }
     Bank {
@@ -164,5 +171,5 @@ pub(crate) fn bank_of(fields: &[u16; 19], n: u8) -> Bank
 pub(crate) fn memory_on(fields: &[u16; 19]) -> bool
     ensures { λ t. ⌜ t ≡ setupIn (now (fields .entry)) .on ⌝ }
 {
-    bit(fields[18], 3)
+    bit(fields[MEMORY], 3)
 }
