@@ -5,7 +5,7 @@ ghost use mathlib.Core.Bool.{true};
 ghost use lib.ListN.{length, take};
 ghost use Rattle.ecc.specs.Code.{taken, checkOf, readingOf, maskOf, flipBit};
 ghost use Rattle.ecc.specs.Cell.{encode, rightBy, loadOf};
-ghost use Rattle.ecc.specs.Lending.{cellAt, putCell, isLent, loadAt, changeAt, storeAt, flipAt};
+ghost use Rattle.ecc.specs.Lending.{cellAt, putCell, isLent, loadAt, storeAt, flipAt};
 
 pub mod columns;
 
@@ -258,7 +258,7 @@ pub fn load_at(cols: &[u8; 64], cells: &[u8], k: usize) -> LoadedCell
 
 // A doubleword stored in lent cell k, with its check byte.
 pub fn store_at(cols: &[u8; 64], cells: &mut [u8], k: usize, bytes: [u8; 8]) -> CellChange
-    ensures { λ r. ⌜ (r ≡ changeAt (now (cells .entry)) k) × (now (cells .exit) ≡ storeAt (now (cols .entry)) (now (cells .entry)) k bytes) ⌝ }
+    ensures { λ r. ⌜ (r, now (cells .exit)) ≡ storeAt (now (cols .entry)) (now (cells .entry)) k bytes ⌝ }
 {
     if is_lent(cells, k) {
         put_cell(cells, k, encode(cols, bytes));
@@ -270,7 +270,7 @@ pub fn store_at(cols: &[u8; 64], cells: &mut [u8], k: usize, bytes: [u8; 8]) -> 
 
 // Flip bit b of lent cell k turned over; a number above 71 turns nothing over.
 pub fn flip_at(cells: &mut [u8], k: usize, b: usize) -> CellChange
-    ensures { λ r. ⌜ (r ≡ changeAt (now (cells .entry)) k) × (now (cells .exit) ≡ flipAt (now (cells .entry)) k b) ⌝ }
+    ensures { λ r. ⌜ (r, now (cells .exit)) ≡ flipAt (now (cells .entry)) k b ⌝ }
 {
     if is_lent(cells, k) {
         let cell = cell_at(cells, k);

@@ -19,7 +19,7 @@ use Rattle.ecc.specs.declared.CellReading.the-variants as cell
 use Rattle.ecc.specs.declared.CellChange.{CellChange}
 use Rattle.ecc.specs.declared.CellChange.the-variants as change
 use Rattle.ecc.specs.Cell.{loadOf}
-use Rattle.ecc.specs.Lending.{cellAt, isLent, lentReading, notLent, loadAt, changeAt}
+use Rattle.ecc.specs.Lending.{cellAt, putCell, isLent, lentReading, notLent, loadAt, changeTo}
 use Rattle.memory.specs.declared.Kind.the-variants.{NoBank}
 use Rattle.memory.specs.Access.{Access, addressOf}
 use Rattle.memory.specs.Spans.{byArguments, bySpans, turnedAway, missed}
@@ -56,14 +56,20 @@ module _ (cols cells : List ℕ) (k : ℕ) (l : LoadedCell) (q : l ≡ loadAt co
       record { lent = t; reads = cc; bytes-are = rw t at (ap (λ (x : LoadedCell). x .bytes) q) })
       (λ t. let e : l .reading ≡ cell.NotLent = rw t at (ap (λ (x : LoadedCell). x .reading) q) in never (cc))
 
-module _ (cells : List ℕ) (k : ℕ) (x : CellChange) (q : x ≡ changeAt cells k) where
-  pub change-unlent : x ≡ change.NotLent → isLent cells k ≡ false
-  unfolding changeAt
-  change-unlent h = byCases (isLent cells k) (λ t. let e : x ≡ change.Changed = rw t at q in never (cc)) (λ t. t)
+module _ (cells : List ℕ) (k : ℕ) (cell : List ℕ) (x : CellChange) (after : List ℕ) (q : (x, after) ≡ changeTo cells k cell) where
+  pub change-unlent : x ≡ change.NotLent → (isLent cells k ≡ false) × (after ≡ cells)
+  unfolding changeTo
+  change-unlent h =
+      byCases (isLent cells k)
+      (λ t. let e : x ≡ change.Changed = rw t at (ap (λ (p : CellChange × List ℕ). p .0) q) in never (cc))
+      (λ t. (t, rw t at (ap (λ (p : CellChange × List ℕ). p .1) q)))
 
-  pub change-lent : x ≡ change.Changed → isLent cells k ≡ true
-  unfolding changeAt
-  change-lent h = byCases (isLent cells k) (λ t. t) (λ t. let e : x ≡ change.NotLent = rw t at q in never (cc))
+  pub change-lent : x ≡ change.Changed → (isLent cells k ≡ true) × (after ≡ putCell cells k cell)
+  unfolding changeTo
+  change-lent h =
+      byCases (isLent cells k)
+      (λ t. (t, rw t at (ap (λ (p : CellChange × List ℕ). p .1) q)))
+      (λ t. let e : x ≡ change.NotLent = rw t at (ap (λ (p : CellChange × List ℕ). p .0) q) in never (cc))
 
 module _ (r : Registers) (cells : List ℕ) (x : Access) where
   -- an early refusal is the call's

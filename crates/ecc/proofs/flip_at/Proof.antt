@@ -2,7 +2,7 @@
 -- Assumes nothing.
 use mathlib.Core.Path.{sym, _∙_}
 use borrow.Author.Needs.{needs}
-use Rattle.ecc.specs.Lending.{changeAt, flipAt}
+use Rattle.ecc.specs.Lending.{changeTo, flipAt}
 use Rattle.ecc.proofs.flip_at.Statement.{statement}
 use Rattle.ecc.proofs.flip_at.Tie as tie
 
@@ -22,25 +22,23 @@ same-length : tie.Need-same-length
 same-length c = search needs
 
 returns : tie.Need-returns
-unfolding changeAt flipAt
+unfolding changeTo flipAt
 returns c =
-    let at = c .before .before .before .before .before .before .before in (
-      simp (← at .before .is-lent .ensures, at .if1 .taken),
-      simp (
-        ← at .before .is-lent .ensures,
-        at .if1 .taken,
-        ← c .before .before .before .before .before .cell-at .ensures,
-        ← c .before .before .before .flip .ensures,
-        ← c .before .before .put-cell .ensures,
-      ),
+    let at = c .before .before .before .before .before .before .before in
+    simp (
+      ← at .before .is-lent .ensures,
+      at .if1 .taken,
+      ← c .before .before .before .before .before .cell-at .ensures,
+      ← c .before .before .before .flip .ensures,
+      ← c .before .before .put-cell .ensures,
     )
 
 same-length-2 : tie.Need-same-length-2
 same-length-2 c = search needs
 
 returns-2 : tie.Need-returns-2
-unfolding changeAt flipAt
-returns-2 c = (simp (← c .before .is-lent .ensures, c .if1 .left), simp (← c .before .is-lent .ensures, c .if1 .left))
+unfolding changeTo flipAt
+returns-2 c = simp (← c .before .is-lent .ensures, c .if1 .left)
 
 pub flip-at-spec : {M : Type 1} → statement M
 flip-at-spec =

@@ -2,7 +2,7 @@
 -- Assumes nothing.
 use mathlib.Core.Path.{sym, _∙_}
 use borrow.Author.Needs.{needs}
-use Rattle.ecc.specs.Lending.{changeAt, storeAt}
+use Rattle.ecc.specs.Lending.{changeTo, storeAt}
 use Rattle.ecc.proofs.store_at.Statement.{statement}
 use Rattle.ecc.proofs.store_at.Tie as tie
 
@@ -19,19 +19,17 @@ same-length : tie.Need-same-length
 same-length c = search needs
 
 returns : tie.Need-returns
-unfolding changeAt storeAt
+unfolding changeTo storeAt
 returns c =
-    let at = c .before .before .before .before .before in (
-      simp (← at .before .is-lent .ensures, at .if1 .taken),
-      simp (← at .before .is-lent .ensures, at .if1 .taken, ← c .before .before .before .encode .ensures, ← c .before .before .put-cell .ensures),
-    )
+    let at = c .before .before .before .before .before in
+    simp (← at .before .is-lent .ensures, at .if1 .taken, ← c .before .before .before .encode .ensures, ← c .before .before .put-cell .ensures)
 
 same-length-2 : tie.Need-same-length-2
 same-length-2 c = search needs
 
 returns-2 : tie.Need-returns-2
-unfolding changeAt storeAt
-returns-2 c = (simp (← c .before .is-lent .ensures, c .if1 .left), simp (← c .before .is-lent .ensures, c .if1 .left))
+unfolding changeTo storeAt
+returns-2 c = simp (← c .before .is-lent .ensures, c .if1 .left)
 
 pub store-at-spec : {M : Type 1} → statement M
 store-at-spec =

@@ -28,8 +28,8 @@ unfolding flipAt
 returns c r e i =
     let a = c .before .before .before .before .before .before .before .args in
     let d = c .before .before .before .before .flip-at in
-    let u = change-unlent (a .cells .now) (a .k) (d .result) (d .ensures .0) (c .enum-told .given .1) in
-    simp (d .ensures .1, u) (sym (flip-unlent columns r (a .cells .now) (a .address) (a .bit) e (a .k) i u))
+    let u = change-unlent (a .cells .now) (a .k) _ (d .result) _ (d .ensures) (c .enum-told .given .1) in
+    simp (u .1) (sym (flip-unlent columns r (a .cells .now) (a .address) (a .bit) e (a .k) i (u .0)))
 
 same-length-2 : tie.Need-same-length-2
 same-length-2 c = search needs
@@ -39,8 +39,8 @@ unfolding flipAt reported
 returns-2 c r e i =
     let a = c .before .before .before .before .before .before .before .args in
     let d = c .before .before .before .before .flip-at in
-    let u = change-lent (a .cells .now) (a .k) (d .result) (d .ensures .0) (c .enum-told2 .given .1) in
-    simp (d .ensures .1, u) (sym (flip-done columns r (a .cells .now) (a .address) (a .bit) e (a .k) i u))
+    let u = change-lent (a .cells .now) (a .k) _ (d .result) _ (d .ensures) (c .enum-told2 .given .1) in
+    simp (u .1) (sym (flip-done columns r (a .cells .now) (a .address) (a .bit) e (a .k) i (u .0)))
 
 pub flip-cell-spec : {M : Type 1} → statement M
 flip-cell-spec =

@@ -1,5 +1,8 @@
-use mathlib.Core.Path.{_∙_}
-use Rattle.ecc.specs.Lending.{storeAt}
+use Prim.Native.Nat.{ℕ}
+use mathlib.Core.List.{List}
+use mathlib.Core.Path.{ap, _∙_}
+use Rattle.ecc.specs.Lending.{changeTo, storeAt}
+use Rattle.ecc.specs.declared.CellChange.{CellChange}
 use borrow.Author.Needs.{needs}
 use Rattle.memory.proofs.cell.store_if.Statement.{statement}
 use Rattle.memory.proofs.cell.store_if.Tie as tie
@@ -11,8 +14,8 @@ same-length : tie.Need-same-length
 same-length c = search needs
 
 returns : tie.Need-returns
-unfolding storeAt
-returns c = c .before .before .store-at .ensures .1 ∙ simp (c .before .before .before .before .before .before .before .pre, c .before .before .before .before .before .if1 .taken)
+unfolding storeAt changeTo
+returns c = ap (λ (p : CellChange × List ℕ). p .1) (c .before .before .store-at .ensures) ∙ simp (c .before .before .before .before .before .before .before .pre, c .before .before .before .before .before .if1 .taken)
 
 returns-2 : tie.Need-returns-2
 returns-2 c = search needs

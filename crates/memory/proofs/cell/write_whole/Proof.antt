@@ -32,8 +32,8 @@ unfolding storeAt
 returns c r e i =
     let a = c .before .before .before .before .before .before .before .before .before .before .args in
     let d = c .before .before .before .before .store-at in
-    let u = change-unlent (a .cells .now) (a .k) (d .result) (d .ensures .0) (c .enum-told .given .1) in
-    simp (d .ensures .1, u) (sym (write-unlent columns r (a .cells .now) (a .address) (a .bytes .now) e (a .k) i u))
+    let u = change-unlent (a .cells .now) (a .k) _ (d .result) _ (d .ensures) (c .enum-told .given .1) in
+    simp (u .1) (sym (write-unlent columns r (a .cells .now) (a .address) (a .bytes .now) e (a .k) i (u .0)))
 
 same-length-2 : tie.Need-same-length-2
 same-length-2 c = search needs
@@ -44,9 +44,9 @@ returns-2 c r e i =
     let a = c .before .before .before .before .before .before .before .before .before .before .args in
     let p = c .before .before .before .before .before .before .before .before .before .before .pre in
     let d = c .before .before .before .before .store-at in
-    let u = change-lent (a .cells .now) (a .k) (d .result) (d .ensures .0) (c .enum-told2 .given .1) in
+    let u = change-lent (a .cells .now) (a .k) _ (d .result) _ (d .ensures) (c .enum-told2 .given .1) in
     let m : c .before .before .before .before .before .before .before .merged .result ≡ a .bytes .now = c .before .before .before .before .before .before .before .merged .ensures ∙ merge-whole (a .bytes .now) _ p refl in
-    simp (d .ensures .1, u, m) (sym (write-whole columns r (a .cells .now) (a .address) (a .bytes .now) e (a .k) i u p))
+    simp (u .1, m) (sym (write-whole columns r (a .cells .now) (a .address) (a .bytes .now) e (a .k) i (u .0) p))
 
 pub write-whole-spec : {M : Type 1} → statement M
 write-whole-spec =
