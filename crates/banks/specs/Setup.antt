@@ -42,16 +42,12 @@ fits R L C = leb (L * 2 ^ 20) (2 ^ (R + C + 3))
 unfoldable pub columnBits : ℕ → ℕ → ℕ
 columnBits R L = first (fits R L) R 8
 
--- an enabled bank
+-- an enabled bank of this span and these row bits
+abbrev pub bankFrom : ℕ → ℕ → ℕ → Bank
+bankFrom start last R = record { enabled = true; start = start; last = last; rows = R; columns = columnBits R (megabytes start last) }
+
 unfoldable pub enabledBank : Registers → ℕ → Bank
-enabledBank r n =
-    record {
-      enabled = true;
-      start = startOf r n;
-      last = lastOf r n;
-      rows = rowBits r n;
-      columns = columnBits (rowBits r n) (megabytes (startOf r n) (lastOf r n));
-    }
+enabledBank r n = bankFrom (startOf r n) (lastOf r n) (rowBits r n)
 
 -- a bank that is off, of the smallest size: of such a one no other field is ever asked
 abbrev pub offBank : Bank

@@ -36,7 +36,7 @@ abbrev pub All : {A : Type 0} → (A → Type 0) → List A → Type 0
 All P [] = Unit {0}
 All P (x ∷ xs) = P x × All P xs
 
--- ---- "between any two accepted flips of one doubleword stands an accepted write or scrub of it"
+-- ---- demand 3's condition: between any two flips that one doubleword takes stands an accepted write or scrub of it
 
 -- the accesses at a place of the list: none where it has no memory call, or one that is refused. "In that condition the flat machine's
 -- refusals tell which calls are accepted."
@@ -78,6 +78,7 @@ flippedAt spans cs q i = anyOf (flips q) (acceptedAt spans cs i)
 abbrev pub renewedAt : Spans → List Call → ℕ → ℕ → Bool
 renewedAt spans cs q i = anyOf (renews q) (acceptedAt spans cs i)
 
+-- the condition by places of the list; the name is ours
 unfoldable pub Spaced : Spans → List Call → Type 0
 Spaced spans cs =
     (q i j : ℕ) → i < j → flippedAt spans cs q i ≡ true → flippedAt spans cs q j ≡ true

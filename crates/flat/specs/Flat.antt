@@ -12,8 +12,9 @@ use Rattle.memory.specs.declared.Kind.the-variants.{Clean, Corrected, Stored, F
 use Rattle.memory.specs.Access.{Access, read, write, flip, scrub, addressOf, parts, Got, got, Given, Call, memory, readRegister, writeRegister}
 use Rattle.memory.specs.Spans.{Spans, turnedAway, missed}
 
--- "one byte for each address in them, and a mark for each doubleword": doubleword q has the addresses from 8 q on, and its mark, document
--- 01's term, remembers the bit that was flipped. Outside the spans nothing is ever looked at
+-- "one byte for each address in them, and a mark for each doubleword": doubleword q has the addresses from 8 q on, and its mark is
+-- document 01's term. There a mark only stands or not; here it also remembers the flipped bit, for the proof, and no answer reads that. Outside
+-- the spans nothing is ever looked at
 pub record Flat : Type 0 where
   pub byte : ℕ → ℕ
   pub mark : ℕ → Option ℕ

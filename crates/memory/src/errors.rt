@@ -3,14 +3,7 @@ ghost use mathlib.Core.Path.{_≡_};
 ghost use Prim.Native.Nat.{_<_};
 ghost use Rattle.memory.specs.Errors.{bitSet, undetected, addressed, detected, triggered, counted, reported};
 use crate::Kind;
-use registers::ERROR_ADDRESS;
-use registers::ERROR_DETECTION_1;
-use registers::ERROR_DETECTION_2;
-use registers::ERROR_ENABLE_1;
-use registers::ERROR_ENABLE_2;
 use registers::Registers;
-use registers::SINGLE_BIT_COUNTER;
-use registers::SINGLE_BIT_TRIGGER;
 
 fn is_set(r: Registers, offset: u8, bit: u8) -> bool
     requires { ⌜ bit < 8 ⌝ }
@@ -22,17 +15,20 @@ fn is_set(r: Registers, offset: u8, bit: u8) -> bool
 fn is_undetected(r: Registers) -> bool
     ensures { λ t. ⌜ t ≡ undetected r ⌝ }
 {
-    (r.byte(ERROR_DETECTION_1) == 0) & (r.byte(ERROR_DETECTION_2) == 0)
+    (r.byte(Registers::ERROR_DETECTION_1) == 0) & (r.byte(Registers::ERROR_DETECTION_2) == 0)
 }
 
 // The address at C8 to CB, lowest byte first.
 fn with_address(r: Registers, address: u32) -> Registers
     ensures { λ s. ⌜ s ≡ addressed r address ⌝ }
 {
-    r.with_byte(ERROR_ADDRESS, (address % 256) as u8)
-        .with_byte(ERROR_ADDRESS + 1, (address / 256 % 256) as u8)
-        .with_byte(ERROR_ADDRESS + 2, (address / 65536 % 256) as u8)
-        .with_byte(ERROR_ADDRESS + 3, (address / 16777216 % 256) as u8)
+    r.with_byte(Registers::ERROR_ADDRESS, (address % 256) as u8)
+        .with_byte(Registers::ERROR_ADDRESS + 1, (address / 256 % 256) as u8)
+        .with_byte(Registers::ERROR_ADDRESS + 2, (address / 65536 % 256) as u8)
+        .with_byte(
+            Registers::ERROR_ADDRESS + 3,
+            (address / 16777216 % 256) as u8,
+        )
 }
 
 // A detection bit set, and the address with it where it is the first.
@@ -52,20 +48,21 @@ fn detect(r: Registers, offset: u8, bit: u8, address: u32) -> Registers
 fn is_triggered(r: Registers) -> bool
     ensures { λ t. ⌜ t ≡ triggered r ⌝ }
 {
-    (r.byte(SINGLE_BIT_COUNTER) == r.byte(SINGLE_BIT_TRIGGER)) & is_set(r, ERROR_ENABLE_1, 2)
+    (r.byte(Registers::SINGLE_BIT_COUNTER) == r.byte(Registers::SINGLE_BIT_TRIGGER))
+        & is_set(r, Registers::ERROR_ENABLE_1, 2)
 }
 
 // A correction counted: at 255 the counter does not rise, so nothing is reported.
 fn count(r: Registers, address: u32) -> Registers
     ensures { λ s. ⌜ s ≡ counted r address ⌝ }
 {
-    let corrections = r.byte(SINGLE_BIT_COUNTER);
+    let corrections = r.byte(Registers::SINGLE_BIT_COUNTER);
     if 255 <= corrections {
         return r;
     }
-    let s = r.with_byte(SINGLE_BIT_COUNTER, corrections + 1);
+    let s = r.with_byte(Registers::SINGLE_BIT_COUNTER, corrections + 1);
     if is_triggered(s) {
-        return detect(s, ERROR_DETECTION_1, 2, address);
+        return detect(s, Registers::ERROR_DETECTION_1, 2, address);
     }
     s
 }
@@ -77,15 +74,15 @@ fn report(r: Registers, kind: Kind, address: u32) -> Registers
         Kind::Clean => r,
         Kind::Corrected => count(r, address),
         Kind::Uncorrectable => {
-            if is_set(r, ERROR_ENABLE_2, 3) {
-                return detect(r, ERROR_DETECTION_2, 3, address);
+            if is_set(r, Registers::ERROR_ENABLE_2, 3) {
+                return detect(r, Registers::ERROR_DETECTION_2, 3, address);
             }
             r
         }
         Kind::Stored => r,
         Kind::NoBank => {
-            if is_set(r, ERROR_ENABLE_1, 5) {
-                return detect(r, ERROR_DETECTION_1, 5, address);
+            if is_set(r, Registers::ERROR_ENABLE_1, 5) {
+                return detect(r, Registers::ERROR_DETECTION_1, 5, address);
             }
             r
         }

@@ -17,7 +17,8 @@ pub use access::answer_write;
 use refusals::Refusal;
 use registers::Registers;
 
-// What an accepted access answers; a flip only that it was accepted.
+// What an accepted access answers: document 01's "clean", "corrected", "uncorrectable", "stored" and "no bank". A flip answers
+// only that it was accepted, which is a kind here, so that the four calls share one answer.
 pub enum Kind {
     Clean,
     Corrected,

@@ -13,6 +13,9 @@ use refusals::Verdict;
 // Every accepted call's answer is at least this, and every refusal's is below it.
 pub(crate) const ACCEPTED: u32 = 0x10000;
 
+// The map's answer where no bank is selected: what a memory call answers there.
+pub(crate) const NO_BANK: u32 = 0x10004;
+
 // The bank that a refusal returns, 0 where it returns none.
 fn bank(x: Refusal) -> u8
     ensures { λ n. ⌜ n ≡ getD (paper x) 1 0 ⌝ }

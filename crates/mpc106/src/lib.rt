@@ -16,6 +16,7 @@ ghost use Rattle.mpc106.specs.Exports.{held, settled, placed, addressed,
 mod answers;
 
 use answers::ACCEPTED;
+use answers::NO_BANK;
 use banks::Column;
 use banks::Comparison;
 use banks::Mapping;
@@ -65,7 +66,7 @@ pub extern "C" fn mpc106_map(registers: &[u8; 256], address: u32, place: &mut [u
     let mapping = banks::map(Registers { bytes: *registers }, address);
     match mapping {
         Mapping::Refused(x) => answers::of_refusal(x),
-        Mapping::NoBank => ACCEPTED + 4,
+        Mapping::NoBank => NO_BANK,
         Mapping::At(p) => {
             let bank = p.bank as u32;
             let row = p.row;

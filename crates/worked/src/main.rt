@@ -17,21 +17,21 @@ fn set(r: Registers, offset: u8, value: u8) -> Registers {
 // A span of bank 0 or 1, in megabytes.
 fn set_span(r: Registers, bank: u8, start: u32, last: u32) -> Registers {
     let n = bank % 2;
-    let low = set(r, registers::START + n, (start % 256) as u8);
+    let low = set(r, Registers::START + n, (start % 256) as u8);
     let whole = set(
         low,
-        registers::START_EXTENDED + n,
+        Registers::START_EXTENDED + n,
         (start / 256 % 256) as u8,
     );
-    let end = set(whole, registers::END + n, (last % 256) as u8);
-    set(end, registers::END_EXTENDED + n, (last / 256 % 256) as u8)
+    let end = set(whole, Registers::END + n, (last % 256) as u8);
+    set(end, Registers::END_EXTENDED + n, (last / 256 % 256) as u8)
 }
 
 // Enables the banks and switches memory on.
 fn switch_on(r: Registers, enabled: u8) -> Registers {
     set(
-        set(r, registers::BANK_ENABLE, enabled),
-        registers::MEMORY,
+        set(r, Registers::BANK_ENABLE, enabled),
+        Registers::MEMORY,
         8,
     )
 }
@@ -39,7 +39,7 @@ fn switch_on(r: Registers, enabled: u8) -> Registers {
 // Bank 0: MB 0 to 1, R 9. Bank 1: MB 2 to 4, R 10.
 fn worked_record() -> Registers {
     let spans = set_span(set_span(Registers::fresh(), 0, 0, 1), 1, 2, 4);
-    switch_on(set(spans, registers::ROW_CODES, 4), 3)
+    switch_on(set(spans, Registers::ROW_CODES, 4), 3)
 }
 
 fn print_number(name: &[u8], n: u32) {

@@ -14,9 +14,6 @@ of-refusal-requires c κs = search needs
 enum-told : tie.Need-enum-told
 enum-told c = search needs
 
-add-result : tie.Need-add-result
-add-result c = search needs
-
 enum-known-mapping-2 : tie.Need-enum-known-mapping-2
 enum-known-mapping-2 c = search needs
 
@@ -40,7 +37,6 @@ mpc106-map-spec =
     enum-known-mapping
     of-refusal-requires
     enum-told
-    add-result
     enum-known-mapping-2
     cast-bank
     returns
