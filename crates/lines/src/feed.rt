@@ -1,7 +1,7 @@
 // A text in chunks of any length: what is kept between them, and what each prints.
 ghost use mathlib.Core.Path.{_≡_};
 ghost use Prim.Native.Nat.{_+_, _*_, _-_, _≤_};
-ghost use lib.ListN.{length, take, drop};
+ghost use lib.ListN.{length, drop};
 ghost use Rattle.ecc.specs.Columns.{columns};
 ghost use Rattle.lines.specs.Printed.{held, lined, lineInto, endInto};
 ghost use Rattle.lines.specs.Stepped.{carriedOf, kept, Reached, stepOf, left};

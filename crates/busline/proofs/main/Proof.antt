@@ -1,7 +1,6 @@
 use mathlib.Core.Path.{sym}
 use Prim.Native.Nat.{ℕ}
 use lib.ListN.{length-replicate}
-use borrow.Author.Needs.{needs}
 use Rattle.busline.proofs.main.Statement.{statement}
 use Rattle.busline.proofs.main.Tie as tie
 

@@ -1,5 +1,5 @@
 use native.Mathlib.Omega.{arith}
-use mathlib.Core.Path.{sym, ap, _∙_}
+use mathlib.Core.Path.{ap}
 use Rattle.format.proofs.PrintLaws.{put-none, put-is}
 use Rattle.format.specs.Output.{malformedText, refusedText}
 use borrow.Author.Needs.{needs}

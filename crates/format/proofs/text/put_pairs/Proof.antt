@@ -1,6 +1,6 @@
 use Prim.Native.Nat.{_+_, _*_, _-_, _≤_}
 use native.Mathlib.Omega.{arith}
-use mathlib.Core.Path.{_≡_, refl, sym, ap, _∙_}
+use mathlib.Core.Path.{_≡_, refl, sym}
 use mathlib.Core.List.{_++_, append-nil}
 use lib.ListN.{length, take, drop, length-set}
 use Rattle.format.specs.Digits.{hexPairs}

@@ -1,10 +1,9 @@
 use Prim.Native.Nat.{_-_}
 use native.Mathlib.Omega.{arith}
-use mathlib.Core.Path.{_≡_, refl, sym, ap, _∙_}
-use lib.ListN.{length, drop, length-drop}
+use mathlib.Core.Path.{_≡_, refl, _∙_}
+use lib.ListN.{length}
 use Rattle.ecc.specs.Columns.{columns}
 use Rattle.lines.specs.Stepped.{Reached}
-use Rattle.lines.specs.Text.{lineLength}
 use Rattle.lines.proofs.TextLaws.{length-end}
 use Rattle.lines.proofs.StepLaws.{reached-start, reached-line}
 use Rattle.lines.proofs.feed.whole_lines.Statement.{statement}
