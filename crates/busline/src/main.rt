@@ -5,17 +5,15 @@ use libc::STDOUT_FILENO;
 use lines::Carry;
 use registers::Registers;
 
-// What is kept between reads; not going where the input ended or a call failed.
+// What is carried over between reads; not going where the input ended or a call failed.
 struct Kept {
     going: bool,
-    registers: Registers,
     carry: Carry,
 }
 
-fn stopped(registers: Registers, carry: Carry) -> Kept {
+fn stopped(carry: Carry) -> Kept {
     Kept {
         going: false,
-        registers: registers,
         carry: carry,
     }
 }
@@ -34,27 +32,25 @@ fn flush(out: &[u8], n: usize) -> bool {
 
 // A chunk, and the output of the lines that it completes.
 fn take(
-    registers: Registers,
+    registers: &mut [u8; 256],
     cells: &mut [u8],
     carry: Carry,
     chunk: &[u8],
     out: &mut [u8],
 ) -> Kept {
     let stepped = lines::step(registers, cells, carry, chunk, out);
-    let after = stepped.registers;
     let rest = stepped.carry;
     let written = stepped.written;
     let is_written = flush(out, written);
     Kept {
         going: is_written,
-        registers: after,
         carry: rest,
     }
 }
 
 // One read, and what it brings.
 fn turn(
-    registers: Registers,
+    registers: &mut [u8; 256],
     cells: &mut [u8],
     carry: Carry,
     chunk: &mut [u8],
@@ -63,33 +59,29 @@ fn turn(
     let got = libc::read(STDIN_FILENO, chunk);
     if got < 0 {
         io::write_all(STDERR_FILENO, b"busline: cannot read standard input\n");
-        return stopped(registers, carry);
+        return stopped(carry);
     }
     if got == 0 {
-        return stopped(registers, carry);
+        return stopped(carry);
     }
     let n = io::count(got, chunk);
     take(registers, cells, carry, &chunk[..n], out)
 }
 
-// An output line written.
-fn flush_line(bytes: [u8; 24], len: usize) {
-    flush(&bytes, len);
-}
-
 // What is left where the input ends.
-fn end(registers: Registers, cells: &mut [u8], carry: Carry) {
-    let last = lines::finish(registers, cells, carry);
-    let text = last.text;
-    let bytes = text.bytes;
-    let n = text.len;
-    flush_line(bytes, n);
+fn end(registers: &mut [u8; 256], cells: &mut [u8], carry: Carry, out: &mut [u8]) {
+    let n = lines::finish(registers, cells, carry, out);
+    flush(out, n);
 }
 
 // Everything that the input has. A proved loop has to end, and nothing says that the input does, so it counts its turns down from a
 // number that no run uses up.
-fn read_all(cells: &mut [u8], chunk: &mut [u8], out: &mut [u8]) -> Kept {
-    let mut registers = Registers::fresh();
+fn read_all(
+    registers: &mut [u8; 256],
+    cells: &mut [u8],
+    chunk: &mut [u8],
+    out: &mut [u8],
+) -> Carry {
     let mut carry = Carry {
         bytes: [0; 41],
         len: 0,
@@ -97,28 +89,27 @@ fn read_all(cells: &mut [u8], chunk: &mut [u8], out: &mut [u8]) -> Kept {
     let mut turns = u64::MAX;
     while turns > 0 {
         let kept = turn(registers, cells, carry, chunk, out);
-        registers = kept.registers;
         carry = kept.carry;
         let going = kept.going;
         if !going {
-            return stopped(registers, carry);
+            return carry;
         }
         turns -= 1;
     }
-    stopped(registers, carry)
+    carry
 }
 
 fn run(cells: &mut [u8], chunk: &mut [u8], out: &mut [u8]) {
-    let kept = read_all(cells, chunk, out);
-    let registers = kept.registers;
-    let carry = kept.carry;
-    end(registers, cells, carry);
+    let fresh = Registers::fresh();
+    let mut registers = fresh.bytes;
+    let carry = read_all(&mut registers, cells, chunk, out);
+    end(&mut registers, cells, carry, out);
 }
 
 // 7,280 cells of nine bytes; an output buffer of 24 bytes for each byte of a chunk.
 fn main() {
     let mut cells = [0u8; 65520];
-    let mut chunk = [0u8; 16384];
-    let mut out = [0u8; 393216];
+    let mut chunk = [0u8; 65536];
+    let mut out = [0u8; 1572864];
     run(&mut cells, &mut chunk, &mut out);
 }

@@ -1,22 +1,23 @@
 -- Laws of printed bytes.
 -- Assumes nothing.
-use mathlib.Core.Path.{_≡_, refl, sym, ap, _∙_}
+use mathlib.Core.Path.{_≡_, refl, sym, ap, ap₂, _∙_}
 use mathlib.Core.Bool.{cond}
-use mathlib.Core.List.{List, [], _∷_, _++_, append-assoc, append-nil}
-use Prim.Native.Nat.{ℕ, zero, suc, _+_, _*_, _/_, _%_, _<_, _≤_}
+use mathlib.Core.List.{List, [], _∷_, _++_, append-assoc}
+use Prim.Native.Nat.{ℕ, suc, _+_, _*_, _/_, _%_, _<_, _≤_}
 use native.Mathlib.Omega.{arith}
+use native.Mathlib.Nat.{zero-add}
 use lib.Dec.{ltb}
-use lib.ListN.{length, getD, take, set, length-set}
-use lib.Seq.{take-all, take-suc, take-suc-set, take-take, take-append-add}
-use borrow.Author.Tests.{ltb-true, ltb-false}
+use lib.ListN.{length, getD, take, drop, set, length-set, length-append}
+use lib.Seq.{take-all, take-at, take-suc, take-suc-set, drop-drop, drop-append-add, drop-set-lt, take-length, set-split, sets, sets-eq}
+use borrow.Author.Tests.{ltb-true, ltb-false, lt-ltb, le-ltb, le-leb, lt-leb}
 use Rattle.ranges.proofs.RangeLaws.{byCases}
 use Rattle.memory.specs.declared.Answer.{Answer}
 use Rattle.memory.specs.declared.Answer.the-variants.{Refused, Done}
 use Rattle.memory.specs.Access.{read, write, flip, scrub}
 use Rattle.memory.specs.Calls.{paperAnswer}
-use Rattle.format.specs.Digits.{hexCharacter, hexPairs}
-use Rattle.format.specs.Output.{accessText, answerText}
-use Rattle.format.specs.Printed.{briefText, flippedText, dataText}
+use Rattle.format.specs.Digits.{hexCharacter, hexPairs, decimal}
+use Rattle.format.specs.Output.{refusedText, accessText, answerText}
+use Rattle.format.specs.Printed.{laid, put, briefText, flippedText, dataText}
 
 -- ---- the lesser of two numbers
 
@@ -52,29 +53,74 @@ pair-put start bytes buffer i x y h k e f g =
     rw (n, m, s, take-suc-set (set bytes (6 + 2 * i) x) (suc (6 + 2 * i)) y room, take-suc-set bytes (6 + 2 * i) x (omega arith), g, take-suc buffer i 0 h, pairs-append (take i buffer) (getD buffer i 0 ∷ []), e, f)
     (simp append-assoc)
 
--- the digits of the first bytes are the first digits
-pairs-take : (n : ℕ) (bytes : List ℕ) → take (2 * n) (hexPairs bytes) ≡ hexPairs (take n bytes)
-pairs-take zero bytes = refl
-pairs-take (suc n) [] =
-    let e : 2 * suc n ≡ suc (suc (2 * n)) = omega arith in
-    rw e
-pairs-take (suc n) (b ∷ bytes) =
-    let e : 2 * suc n ≡ suc (suc (2 * n)) = omega arith in
-    rw e (ap (λ (l : List ℕ). hexCharacter (b / 16) ∷ hexCharacter (b % 16) ∷ l) (pairs-take n bytes))
+-- what is behind it stays
+pub pair-behind : (l out : List ℕ) (i x y : ℕ) → drop (6 + 2 * i) l ≡ drop (6 + 2 * i) out
+    → drop (6 + 2 * (i + 1)) (set (set l (6 + 2 * i) x) (6 + 2 * i + 1) y) ≡ drop (6 + 2 * (i + 1)) out
+pair-behind l out i x y e =
+    let n : 6 + 2 * (i + 1) ≡ 6 + 2 * i + 2 = omega arith in
+    drop-set-lt (6 + 2 * (i + 1)) (set l (6 + 2 * i) x) (6 + 2 * i + 1) y (omega arith)
+    ∙ drop-set-lt (6 + 2 * (i + 1)) l (6 + 2 * i) x (omega arith)
+    ∙ ap (λ (m : ℕ). drop m l) n ∙ sym (drop-drop 2 (6 + 2 * i) l) ∙ ap (drop 2) e ∙ drop-drop 2 (6 + 2 * i) out ∙ ap (λ (m : ℕ). drop m out) (sym n)
 
--- LF after the digits of the first bytes, as far as 8 go
-pub line-end : (start text bytes : List ℕ) (n count : ℕ) → length start ≡ 6 → length text ≡ 24 → n ≤ 8 → take n bytes ≡ take count bytes → take 22 text ≡ start ++ hexPairs bytes
-    → take (6 + 2 * n + 1) (set text (6 + 2 * n) 0x0A) ≡ start ++ (hexPairs (take count bytes) ++ (0x0A ∷ []))
-line-end start text bytes n count h k m same e =
-    let s : 6 + 2 * n + 1 ≡ suc (6 + 2 * n) = omega arith in
-    let w : 6 + 2 * n ≡ length start + 2 * n = omega arith in
-    let front : take (6 + 2 * n) text ≡ start ++ hexPairs (take count bytes) =
-    sym (take-take (6 + 2 * n) 22 text (omega arith))
-    ∙ ap (take (6 + 2 * n)) e
-    ∙ ap (λ (m : ℕ). take m (start ++ hexPairs bytes)) w
-    ∙ take-append-add start (hexPairs bytes) (2 * n)
-    ∙ ap (λ (l : List ℕ). start ++ l) (pairs-take n bytes ∙ ap hexPairs same) in
-    rw (s, take-suc-set text (6 + 2 * n) 0x0A (omega arith), front) (append-assoc start (hexPairs (take count bytes)) (0x0A ∷ []))
+pub all-pairs : (start l out bytes : List ℕ) (i : ℕ) → i ≡ length bytes → take (6 + 2 * i) l ≡ start ++ hexPairs (take i bytes) → drop (6 + 2 * i) l ≡ drop (6 + 2 * i) out
+    → (take (6 + 2 * length bytes) l ≡ start ++ hexPairs bytes) × (drop (6 + 2 * length bytes) l ≡ drop (6 + 2 * length bytes) out)
+all-pairs start l out bytes i h e f =
+    (rw h at e ∙ ap (λ (x : List ℕ). start ++ hexPairs x) (take-length bytes), rw h at f)
+
+-- ---- a text at the start of the output
+
+-- bytes stored one after the other
+pub laid-sets : (text out : List ℕ) → length text ≤ length out → (length text, sets out 0 text) ≡ laid text out
+laid-sets text out h = ap (λ (l : List ℕ). (length text, l)) (sets-eq text out 0 (omega arith) ∙ ap (λ (n : ℕ). text ++ drop n out) (zero-add (length text)))
+
+-- a refusal's number in one digit, and in two
+pub refused-one : (l n : ℕ) → n < 10 → l ∷ 0x2C ∷ (0x30 + n) ∷ 0x0A ∷ [] ≡ refusedText l n
+unfolding refusedText decimal
+refused-one l n h = rw (lt-ltb n 10 h)
+
+pub refused-two : (l n : ℕ) → 10 ≤ n → l ∷ 0x2C ∷ (0x30 + n / 10) ∷ (0x30 + n % 10) ∷ 0x0A ∷ [] ≡ refusedText l n
+unfolding refusedText decimal
+refused-two l n h = rw (le-ltb n 10 h)
+
+pub put-none : (text out : List ℕ) → length out < 24 → (0, out) ≡ put text out
+unfolding put
+put-none text out h = rw (lt-leb 24 (length out) h)
+
+pub put-laid : (text out : List ℕ) → 24 ≤ length out → put text out ≡ laid text out
+unfolding put
+put-laid text out h = rw (le-leb 24 (length out) h)
+
+-- what a text that is laid down was, where there is room
+pub put-is : (n : ℕ) (a b out out′ : List ℕ) → 24 ≤ length out → (n, out′) ≡ laid a out → a ≡ b → (n, out′) ≡ put b out
+put-is n a b out out′ h e f = e ∙ ap (λ (t : List ℕ). laid t out) f ∙ sym (put-laid b out h)
+
+pairs-length : (bs : List ℕ) → length (hexPairs bs) ≡ 2 * length bs
+pairs-length [] = refl
+pairs-length (b ∷ bs) = let e = pairs-length bs in omega arith
+
+-- six bytes, the digits, and LF after them
+pub data-laid : (start bytes out out′ : List ℕ) → length start ≡ 6 → length bytes ≤ 8 → 24 ≤ length out → length out′ ≡ length out
+    → take (6 + 2 * length bytes) out′ ≡ take 6 (sets out 0 start) ++ hexPairs bytes
+    → drop (6 + 2 * length bytes) out′ ≡ drop (6 + 2 * length bytes) (sets out 0 start)
+    → (6 + 2 * length bytes + 1, set out′ (6 + 2 * length bytes) 0x0A) ≡ laid (start ++ (hexPairs bytes ++ (0x0A ∷ []))) out
+data-laid start bytes out out′ h few room same e f =
+    let m = 6 + 2 * length bytes in
+    let text = start ++ (hexPairs bytes ++ (0x0A ∷ [])) in
+    let n : length text ≡ m + 1 = simp length-append (omega (arith, pairs-length bytes)) in
+    let s : suc m ≡ m + 1 = omega arith in
+    let w : m ≡ length start + 2 * length bytes = omega arith in
+    let z : 6 ≡ 0 + length start = omega arith in
+    let first : sets out 0 start ≡ start ++ drop 6 out = sets-eq start out 0 (omega arith) ∙ ap (λ (i : ℕ). start ++ drop i out) (sym z) in
+    let front : take m out′ ≡ start ++ hexPairs bytes = e ∙ ap (λ (l : List ℕ). l ++ hexPairs bytes) (ap (take 6) first ∙ take-at start (drop 6 out) 6 h) in
+    let rest : drop m out′ ≡ drop m out =
+    f ∙ ap (drop m) first ∙ ap (λ (i : ℕ). drop i (start ++ drop 6 out)) w ∙ drop-append-add start (drop 6 out) (2 * length bytes) ∙ drop-drop (2 * length bytes) 6 out in
+    let behind : drop (suc m) out′ ≡ drop (length text) out =
+    ap (λ (i : ℕ). drop i out′) s ∙ sym (drop-drop 1 m out′) ∙ ap (drop 1) rest ∙ drop-drop 1 m out ∙ ap (λ (i : ℕ). drop i out) (sym n) in
+    ap₂ (λ (i : ℕ) (l : List ℕ). (i, l)) (sym n)
+    (set-split out′ m 0x0A (omega arith) ∙ ap₂ (λ (x y : List ℕ). x ++ 0x0A ∷ y) front behind ∙ joined (hexPairs bytes) (drop (length text) out))
+  where
+    joined : (x y : List ℕ) → start ++ x ++ 0x0A ∷ y ≡ start ++ (x ++ (0x0A ∷ [])) ++ y
+    joined x y = simp append-assoc
 
 -- ---- the texts of the memory calls, by what a call answered
 

@@ -1,7 +1,7 @@
 // The bytes of a `w` line.
 ghost use mathlib.Core.Path.{_≡_};
 ghost use Prim.Native.Nat.{_+_, _*_, _≤_};
-ghost use lib.ListN.{length, take, drop};
+ghost use lib.ListN.{length, drop};
 ghost use Rattle.format.specs.Digits.{hexBytes};
 ghost use Rattle.format.specs.Parsed.{read};
 use crate::digits::hex_pair;

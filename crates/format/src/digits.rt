@@ -1,11 +1,9 @@
 // Digits, read and printed. What is no digit has a value out of range.
 ghost use mathlib.Core.Path.{_≡_};
 ghost use Prim.Native.Nat.{_+_, _*_, _/_, _%_, _<_, _≤_, _^_};
-ghost use mathlib.Core.Bool.{cond};
 ghost use mathlib.Core.List.{[], _∷_};
-ghost use mathlib.Core.Option.{none, some};
 ghost use lib.ListN.{length, take, drop};
-ghost use Rattle.format.specs.Digits.{below, hexCharacter, decimalDigit, hexDigit, hexFrom, hexBytes};
+ghost use Rattle.format.specs.Digits.{below, hexCharacter, decimalDigit, hexDigit, hexFrom};
 
 // A hexadecimal digit's character.
 fn character(d: u8) -> u8

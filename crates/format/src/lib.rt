@@ -23,7 +23,6 @@ pub use request::Parsed;
 pub use request::Request;
 use request::bare;
 use request::malformed;
-pub use text::Text;
 
 // By the letter, of a line whose second byte is a comma.
 fn by_letter(line: &[u8]) -> Parsed

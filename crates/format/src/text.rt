@@ -1,80 +1,60 @@
-// Output lines, each of one form.
+// Output lines, each of one form, put at the start of an output that has room for them.
 ghost use mathlib.Core.Path.{_≡_};
-ghost use Prim.Native.Nat.{_≤_};
-ghost use mathlib.Core.Bool.{cond};
+ghost use Prim.Native.Nat.{_+_, _*_, _≤_};
 ghost use mathlib.Core.List.{[], _∷_, _++_};
-ghost use lib.Dec.{ltb};
-ghost use lib.ListN.{length, take};
+ghost use lib.ListN.{length, take, drop};
 ghost use Rattle.format.specs.Digits.{hexPair, hexPairs};
 ghost use Rattle.format.specs.Output.{refusedText, acceptedText, kindLetter};
-ghost use Rattle.format.specs.Printed.{bytesOf};
+ghost use Rattle.format.specs.Printed.{laid};
 use crate::digits::high_digit;
 use crate::digits::low_digit;
 use memory::Kind;
 
-// An output line: its first `len` bytes, LF included. No line has more than 24.
-pub struct Text {
-    pub bytes: [u8; 24],
-    pub len: usize,
-}
-
-pub(crate) fn refused(letter: u8, number: u8) -> Text
-    ensures { λ r. ⌜ bytesOf r ≡ refusedText letter number ⌝ }
-    ensures { λ r. ⌜ r .len ≤ 24 ⌝ }
+pub(crate) fn refused(letter: u8, number: u8, out: &mut [u8]) -> usize
+    requires { ⌜ 24 ≤ length (now out) ⌝ }
+    ensures { λ n. ⌜ (n, now (out .exit)) ≡ laid (refusedText letter number) (now (out .entry)) ⌝ }
+    ensures { λ n. ⌜ n ≤ 24 ⌝ }
 {
-    let mut bytes = [0u8; 24];
-    bytes[0] = letter;
-    bytes[1] = 0x2c;
+    out[0] = letter;
+    out[1] = 0x2c;
     if number < 10 {
-        bytes[2] = 0x30 + number;
-        bytes[3] = 0x0a;
-        return Text {
-            bytes: bytes,
-            len: 4,
-        };
+        out[2] = 0x30 + number;
+        out[3] = 0x0a;
+        return 4;
     }
-    bytes[2] = 0x30 + number / 10;
-    bytes[3] = 0x30 + number % 10;
-    bytes[4] = 0x0a;
-    Text {
-        bytes: bytes,
-        len: 5,
-    }
+    out[2] = 0x30 + number / 10;
+    out[3] = 0x30 + number % 10;
+    out[4] = 0x0a;
+    5
 }
 
 // Accepted, with nothing to tell.
-pub(crate) fn accepted(letter: u8) -> Text
-    ensures { λ r. ⌜ bytesOf r ≡ acceptedText letter [] ⌝ }
-    ensures { λ r. ⌜ r .len ≤ 24 ⌝ }
+pub(crate) fn accepted(letter: u8, out: &mut [u8]) -> usize
+    requires { ⌜ 24 ≤ length (now out) ⌝ }
+    ensures { λ n. ⌜ (n, now (out .exit)) ≡ laid (acceptedText letter []) (now (out .entry)) ⌝ }
+    ensures { λ n. ⌜ n ≤ 24 ⌝ }
 {
-    let mut bytes = [0u8; 24];
-    bytes[0] = letter;
-    bytes[1] = 0x2c;
-    bytes[2] = 0x30;
-    bytes[3] = 0x0a;
-    Text {
-        bytes: bytes,
-        len: 4,
-    }
+    out[0] = letter;
+    out[1] = 0x2c;
+    out[2] = 0x30;
+    out[3] = 0x0a;
+    4
 }
 
 // A register's value.
-pub(crate) fn value(v: u8) -> Text
-    ensures { λ r. ⌜ bytesOf r ≡ acceptedText 0x67 (0x2C ∷ hexPair v) ⌝ }
-    ensures { λ r. ⌜ r .len ≤ 24 ⌝ }
+pub(crate) fn value(v: u8, out: &mut [u8]) -> usize
+    requires { ⌜ 24 ≤ length (now out) ⌝ }
+    ensures { λ n. ⌜ (n, now (out .exit)) ≡ laid (acceptedText 0x67 (0x2C ∷ hexPair v)) (now (out .entry)) ⌝ }
+    ensures { λ n. ⌜ n ≤ 24 ⌝ }
 {
-    let mut bytes = [0u8; 24];
-    bytes[0] = 0x67;
-    bytes[1] = 0x2c;
-    bytes[2] = 0x30;
-    bytes[3] = 0x2c;
-    bytes[4] = high_digit(v);
-    bytes[5] = low_digit(v);
-    bytes[6] = 0x0a;
-    Text {
-        bytes: bytes,
-        len: 7,
-    }
+    out[0] = 0x67;
+    out[1] = 0x2c;
+    out[2] = 0x30;
+    out[3] = 0x2c;
+    out[4] = high_digit(v);
+    out[5] = low_digit(v);
+    out[6] = 0x0a;
+    7
 }
 
 fn kind_letter(kind: Kind) -> u8
@@ -91,63 +71,49 @@ fn kind_letter(kind: Kind) -> u8
 }
 
 // The answer of a write or a scrub.
-pub(crate) fn answer(letter: u8, kind: Kind) -> Text
-    ensures { λ r. ⌜ bytesOf r ≡ acceptedText letter (0x2C ∷ kindLetter kind ∷ []) ⌝ }
-    ensures { λ r. ⌜ r .len ≤ 24 ⌝ }
+pub(crate) fn answer(letter: u8, kind: Kind, out: &mut [u8]) -> usize
+    requires { ⌜ 24 ≤ length (now out) ⌝ }
+    ensures { λ n. ⌜ (n, now (out .exit)) ≡ laid (acceptedText letter (0x2C ∷ kindLetter kind ∷ [])) (now (out .entry)) ⌝ }
+    ensures { λ n. ⌜ n ≤ 24 ⌝ }
 {
-    let mut bytes = [0u8; 24];
-    bytes[0] = letter;
-    bytes[1] = 0x2c;
-    bytes[2] = 0x30;
-    bytes[3] = 0x2c;
-    bytes[4] = kind_letter(kind);
-    bytes[5] = 0x0a;
-    Text {
-        bytes: bytes,
-        len: 6,
-    }
+    out[0] = letter;
+    out[1] = 0x2c;
+    out[2] = 0x30;
+    out[3] = 0x2c;
+    out[4] = kind_letter(kind);
+    out[5] = 0x0a;
+    6
 }
 
 // The two digits of each of the bytes, from place 6 on.
-fn with_pairs(start: [u8; 24], bytes: [u8; 8]) -> [u8; 24]
-    ensures { λ r. ⌜ (length r ≡ 24) × (take 22 r ≡ take 6 start ++ hexPairs bytes) ⌝ }
+fn put_pairs(bytes: &[u8], out: &mut [u8])
+    requires { ⌜ (length (now bytes) ≤ 8) × (24 ≤ length (now out)) ⌝ }
+    ensures { λ _. ⌜ (take (6 + 2 * length (now (bytes .entry))) (now (out .exit)) ≡ take 6 (now (out .entry)) ++ hexPairs (now (bytes .entry))) × (drop (6 + 2 * length (now (bytes .entry))) (now (out .exit)) ≡ drop (6 + 2 * length (now (bytes .entry))) (now (out .entry))) ⌝ }
 {
-    let mut text = start;
     let mut i: usize = 0;
-    while i < 8 {
+    while i < bytes.len() {
         let at = 6 + 2 * i;
         let b = bytes[i];
-        text[at] = high_digit(b);
-        text[at + 1] = low_digit(b);
+        out[at] = high_digit(b);
+        out[at + 1] = low_digit(b);
         i += 1;
     }
-    text
 }
 
-fn at_most_eight(count: usize) -> usize
-    ensures { λ r. ⌜ (r ≡ cond (ltb count 8) count 8) × (r ≤ 8) ⌝ }
+// The answer of a read, and its bytes.
+pub(crate) fn data(kind: Kind, bytes: &[u8], out: &mut [u8]) -> usize
+    requires { ⌜ (length (now bytes) ≤ 8) × (24 ≤ length (now out)) ⌝ }
+    ensures { λ n. ⌜ (n, now (out .exit)) ≡ laid (acceptedText 0x72 (0x2C ∷ kindLetter kind ∷ 0x2C ∷ hexPairs (now (bytes .entry)))) (now (out .entry)) ⌝ }
+    ensures { λ n. ⌜ n ≤ 24 ⌝ }
 {
-    if count < 8 { count } else { 8 }
-}
-
-// The answer of a read, and the first `count` of these bytes.
-pub(crate) fn data(kind: Kind, bytes: [u8; 8], count: usize) -> Text
-    ensures { λ r. ⌜ bytesOf r ≡ acceptedText 0x72 (0x2C ∷ kindLetter kind ∷ 0x2C ∷ hexPairs (take count bytes)) ⌝ }
-    ensures { λ r. ⌜ r .len ≤ 24 ⌝ }
-{
-    let mut start = [0u8; 24];
-    start[0] = 0x72;
-    start[1] = 0x2c;
-    start[2] = 0x30;
-    start[3] = 0x2c;
-    start[4] = kind_letter(kind);
-    start[5] = 0x2c;
-    let mut text = with_pairs(start, bytes);
-    let n = at_most_eight(count);
-    let end = 6 + 2 * n;
-    text[end] = 0x0a;
-    Text {
-        bytes: text,
-        len: end + 1,
-    }
+    out[0] = 0x72;
+    out[1] = 0x2c;
+    out[2] = 0x30;
+    out[3] = 0x2c;
+    out[4] = kind_letter(kind);
+    out[5] = 0x2c;
+    put_pairs(bytes, out);
+    let end = 6 + 2 * bytes.len();
+    out[end] = 0x0a;
+    end + 1
 }

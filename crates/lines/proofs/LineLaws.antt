@@ -1,34 +1,36 @@
--- What a memory call's line prints, from what the call returned.
+-- What a line prints and leaves, from what its call returned.
 -- Assumes nothing.
-use mathlib.Core.Path.{_≡_, refl, sym, ap, _∙_}
-use mathlib.Core.Bool.{Bool, true, false}
+use mathlib.Core.Path.{_≡_, refl, sym, ap, ap₂, _∙_}
+use mathlib.Core.Bool.{true}
 use mathlib.Core.List.{List, [], _∷_}
-use mathlib.Core.Option.{Option, none, some}
-use Prim.Native.Nat.{ℕ, _<_}
+use mathlib.Core.Option.{Option, some}
+use Prim.Native.Nat.{ℕ, _<_, _≤_}
 use native.Mathlib.Omega.{arith}
-use lib.ListN.{getD, take}
-use borrow.Author.Tests.{lt-ltb, ne-eqb}
+use lib.ListN.{length, take}
+use borrow.Author.Tests.{lt-ltb, ne-eqb, le-leb, lt-leb}
 use Rattle.ranges.proofs.RangeLaws.{byCases}
-use Rattle.refusals.specs.Paper.{Declined, paperVerdict, refused, given}
+use Rattle.refusals.specs.Paper.{Declined, paperVerdict, Outcome, refused, given}
+use Rattle.refusals.specs.declared.Verdict.{Verdict}
 use Rattle.registers.specs.declared.Registers.{Registers}
 use Rattle.banks.specs.Setup.{setupOf}
 use Rattle.banks.specs.Judge.{ready}
-use Rattle.control.specs.declared.Written.{Written}
-use Rattle.control.specs.Calls.{paperWritten, writeAt}
-use Rattle.memory.specs.declared.Called.{Called}
+use Rattle.control.specs.declared.Reading.{Reading}
+use Rattle.control.specs.Calls.{readAt, writeAt, paperReading}
 use Rattle.memory.specs.declared.Answer.{Answer}
 use Rattle.memory.specs.declared.Answer.the-variants.{Refused, Done}
-use Rattle.memory.specs.Access.{Access, read, write, flip, scrub, Given, Call, writeRegister}
+use Rattle.memory.specs.Access.{Access, read, Given, Call, memory, readRegister, writeRegister}
 use Rattle.memory.specs.Spans.{turnedAway, byArguments, byCount}
-use Rattle.memory.specs.Calls.{State, refusal, memoryCall, Effect, paperAnswer, leaves, effectOf, called}
+use Rattle.memory.specs.Calls.{State, refusal, memoryCall, Effect, paperAnswer, leaves, recorded, calledAt, effectOf, called}
 use Rattle.memory.proofs.CallLaws.{refusal-unready, refusal-ready, called-refused}
 use Rattle.format.specs.declared.request.Parsed.{Parsed}
 use Rattle.format.specs.declared.request.Request.{Request}
 use Rattle.format.specs.Parsed.{asked, meant}
-use Rattle.format.specs.Output.{writtenText, accessText, answerText}
+use Rattle.format.specs.Output.{writtenText, readingText, accessText}
 use Rattle.format.specs.Format.{parse}
 use Rattle.lines.specs.Line.{Printed, printedEffect, callOf, orMalformed, lineOf}
-use Rattle.format.specs.Printed.{briefText}
+use Rattle.lines.specs.Printed.{held, lined, told, lineInto}
+use Rattle.format.specs.Printed.{put, briefText}
+use Rattle.format.proofs.PrintLaws.{put-laid}
 
 -- the buffer that a call was lent does not matter: a refused one prints no bytes
 pub any-buffer : (cols : List ℕ) (r : Registers) (cells : List ℕ) (x : Access) (b d : List ℕ)
@@ -57,43 +59,62 @@ module _ (r : Registers) (cells : List ℕ) (a : ℕ) where
       (λ t. (6 ∷ [], called-refused r cells (read a n) cols b (6 ∷ []) (long-refusal n h t), called-refused r cells (read a 9) cols b (6 ∷ []) (long-refusal 9 (omega arith) t)))
       (λ t. (5 ∷ [], called-refused r cells (read a n) cols b (5 ∷ []) (refusal-unready r cells (read a n) t), called-refused r cells (read a 9) cols b (5 ∷ []) (refusal-unready r cells (read a 9) t)))
 
--- what a call printed and left, from the text b and what it returned
-pub effect-line : (x : Access) (d : Called) (cells buffer b : List ℕ) (e : Effect) → leaves d cells buffer ≡ e
-    → b ≡ accessText x (paperAnswer (d .answer)) buffer → (b, record { registers = d .registers; cells = cells }) ≡ printedEffect x e
-effect-line x d cells buffer b e h k =
-    ap (λ (l : List ℕ). (l, record { registers = d .registers; cells = cells })) k ∙ ap (printedEffect x) h
+-- ---- what a line prints, and what it leaves
 
-pub long-line : (cols : List ℕ) (r : Registers) (cells : List ℕ) (a n : ℕ) (d : Called) (buffer lent b : List ℕ) → 8 < n
-    → leaves d cells buffer ≡ called cols r cells (read a 9) lent → b ≡ briefText 0x72 (d .answer)
-    → (b, record { registers = d .registers; cells = cells }) ≡ printedEffect (read a n) (called cols r cells (read a n) [])
+-- a memory call that answered y
+pub memory-line : (cols : List ℕ) (x : Access) (r cells : List ℕ) (a : ℕ) (y : Answer) (r′ cells′ buffer lent t : List ℕ)
+    → leaves (calledAt (record { bytes = r }) a y) cells′ buffer ≡ called cols (record { bytes = r }) cells x lent
+    → r′ ≡ recorded y a (record { bytes = r }) .bytes → accessText x (paperAnswer y) buffer ≡ t
+    → (t, held r′ cells′) ≡ callOf cols (held r cells) (memory x)
+unfolding callOf
+memory-line cols x r cells a y r′ cells′ buffer lent t e f g =
+    ap₂ (λ (u s : List ℕ). (u, held s cells′)) (sym g) f ∙ ap (printedEffect x) e ∙ any-buffer cols (record { bytes = r }) cells x lent []
+
+-- a read of more than 8 bytes, made as one of 9
+pub long-line : (cols : List ℕ) (r cells : List ℕ) (a n : ℕ) (y : Answer) (r′ buffer lent : List ℕ) → 8 < n
+    → leaves (calledAt (record { bytes = r }) a y) cells buffer ≡ called cols (record { bytes = r }) cells (read a 9) lent
+    → r′ ≡ recorded y a (record { bytes = r }) .bytes
+    → (briefText 0x72 y, held r′ cells) ≡ callOf cols (held r cells) (memory (read a n))
 unfolding accessText
-long-line cols r cells a n d buffer lent b h e k =
-    let l = long-read r cells a cols n lent h in
-    let same : leaves d cells buffer ≡ called cols r cells (read a n) lent = e ∙ l .2 ∙ sym (l .1) in
-    effect-line (read a n) d cells buffer b (called cols r cells (read a n) lent) same
-    (k ∙ go (d .answer) (ap (λ (x : Effect). x .answer) (e ∙ l .2)))
-    ∙ any-buffer cols r cells (read a n) lent []
+long-line cols r cells a n y r′ buffer lent h e f =
+    let l = long-read (record { bytes = r }) cells a cols n lent h in
+    memory-line cols (read a n) r cells a y r′ cells buffer lent (briefText 0x72 y) (e ∙ l .2 ∙ sym (l .1)) f (go y (ap (λ (x : Effect). x .answer) (e ∙ l .2)))
   where
-    go : {m : List ℕ} (x : Answer) → paperAnswer x ≡ refused m → briefText 0x72 x ≡ accessText (read a n) (paperAnswer x) buffer
-    go (Refused y) i = refl
+    go : {m : List ℕ} (x : Answer) → paperAnswer x ≡ refused m → accessText (read a n) (paperAnswer x) buffer ≡ briefText 0x72 x
+    go (Refused z) i = refl
     go (Done q) i = cc
 
-pub set-line-is : (cols : List ℕ) (r : Registers) (o v : ℕ) (w : Written) (cells b : List ℕ) → paperWritten w ≡ writeAt r o v
-    → b ≡ writtenText (paperVerdict (w .verdict))
-    → (b, record { registers = w .registers; cells = cells }) ≡ callOf cols (record { registers = r; cells = cells }) (writeRegister o v)
+pub set-line-is : (cols : List ℕ) (r cells : List ℕ) (o v : ℕ) (w : Verdict) (r′ : List ℕ)
+    → (paperVerdict w, record { bytes = r′ }) ≡ writeAt (record { bytes = r }) o v
+    → (writtenText (paperVerdict w), held r′ cells) ≡ callOf cols (held r cells) (writeRegister o v)
 unfolding callOf writeAt
-set-line-is cols r o v w cells b e k =
-    rw (k, ← ap (λ (p : Declined × Registers). p .0) e, ← ap (λ (p : Declined × Registers). p .1) e)
+set-line-is cols r cells o v w r′ e = ap (λ (p : Declined × Registers). (writtenText (p .0), record { registers = p .1; cells = cells })) e
 
-pub line-is : (cols : List ℕ) (st : State) (line : List ℕ) (o : Option Call) → parse line ≡ o → lineOf cols st line ≡ orMalformed cols st o
-unfolding lineOf
-line-is cols st line o e = rw e
+pub get-line-is : (cols : List ℕ) (r cells : List ℕ) (o : ℕ) (x : Reading) → paperReading x ≡ readAt (record { bytes = r }) o
+    → (readingText (paperReading x), held r cells) ≡ callOf cols (held r cells) (readRegister o)
+unfolding callOf
+get-line-is cols r cells o x e = ap (λ (y : Outcome ℕ). (readingText y, held r cells)) e
 
--- what a line asks for, by what the code took it for
-pub executed : (cols : List ℕ) (st : State) (line : List ℕ) (p : Parsed) (q : Request) → meant p ≡ parse line → p .request ≡ q
-    → lineOf cols st line ≡ orMalformed cols st (asked q (take (p .count) (p .bytes)))
-executed cols st line p q e f = line-is cols st line (asked q (take (p .count) (p .bytes))) (sym e ∙ ap (λ (x : Request). asked x (take (p .count) (p .bytes))) f)
+-- ---- the same at the start of an output with room for it
 
--- a text with the record and the cells
-pub told : (r : Registers) (cells b d : List ℕ) → b ≡ d → _≡_ {A = Printed} (b, record { registers = r; cells = cells }) (d, record { registers = r; cells = cells })
-told r cells b d e = ap (λ (l : List ℕ). (l, record { registers = r; cells = cells })) e
+pub line-told : (n : ℕ) (out out′ t r cells : List ℕ) (p : Printed) → 24 ≤ length out → (n, out′) ≡ put t out → (t, held r cells) ≡ p
+    → lined n out′ r cells ≡ told out p
+line-told n out out′ t r cells p room e f =
+    ap (λ (x : ℕ × List ℕ). (x .0, x .1, held r cells)) (e ∙ put-laid t out room) ∙ ap (told out) f
+
+module _ (cols : List ℕ) (st : State) (line out : List ℕ) where
+  pub room-told : 24 ≤ length out → lineInto cols st line out ≡ told out (lineOf cols st line)
+  unfolding lineInto
+  room-told h = rw (le-leb 24 (length out) h)
+
+  pub no-room : length out < 24 → (0, out, st) ≡ lineInto cols st line out
+  unfolding lineInto
+  no-room h = rw (lt-leb 24 (length out) h)
+
+  -- what a line asks for, by what the code took it for
+  pub executed : (p : Parsed) (q : Request) → 24 ≤ length out → meant p ≡ parse line → p .request ≡ q
+      → told out (orMalformed cols st (asked q (take (p .count) (p .bytes)))) ≡ lineInto cols st line out
+  unfolding lineOf
+  executed p q h e f =
+      let o : asked q (take (p .count) (p .bytes)) ≡ parse line = sym (ap (λ (x : Request). asked x (take (p .count) (p .bytes))) f) ∙ e in
+      ap (λ (c : Option Call). told out (orMalformed cols st c)) o ∙ sym (room-told h)

@@ -5,19 +5,20 @@ use mathlib.Core.Bool.{Bool, true, false, cond}
 use mathlib.Core.List.{List, [], _∷_, _++_, append-assoc, append-nil}
 use Prim.Native.Nat.{ℕ, suc, _+_, _*_, _-_, _≤_, _<_}
 use native.Mathlib.Omega.{arith}
-use lib.Dec.{ltb}
-use lib.ListN.{length, take, drop, length-take, length-drop, take-append-drop}
-use lib.Seq.{drop-drop, take-all, take-append-add, take-paste, drop-paste, length-paste, length-take-le, paste}
-use borrow.Author.Tests.{ltb-true, ltb-false, le-leb, lt-leb}
+use native.Mathlib.Nat.{zero-add}
+use lib.Dec.{ltb, leb}
+use lib.ListN.{length, take, drop, length-append, length-drop, drop-of-length-le, take-append-drop}
+use lib.Seq.{drop-drop, take-all, take-append-add, take-append-seam, drop-append-add, drop-append-seam, take-paste, length-take-le, paste}
+use borrow.Author.Tests.{le-leb, lt-leb}
+use borrow.Rule.Slice.PartMut.{midOf, putMid}
 use Rattle.ranges.proofs.RangeLaws.{byCases}
-use Rattle.registers.specs.declared.Registers.{Registers}
-use Rattle.format.specs.declared.text.Text.{Text}
-use Rattle.format.specs.Printed.{bytesOf}
 use Rattle.format.proofs.PrintLaws.{least-le, take-least}
 use Rattle.lines.specs.Line.{Printed, lineOf}
 use Rattle.memory.specs.Calls.{State}
 use Rattle.lines.specs.Text.{Fed, lineLength, fed, after, ended}
+use Rattle.lines.specs.Printed.{held, lined, told, lineInto, endInto}
 use Rattle.lines.specs.Stepped.{kept, Put, Reached, stepOf}
+use Rattle.lines.proofs.LineLaws.{room-told}
 use Rattle.lines.proofs.TextLaws.{line-take, fed-line, fed-plain}
 
 pub extended-is : (bytes part : List ℕ) (len n more : ℕ) → length bytes ≡ 41 → n ≡ cond (ltb len 41) len 41
@@ -34,23 +35,62 @@ extended-is bytes part len n more h e f =
     ∙ ap (λ (m : ℕ). take m (take n bytes ++ part)) (sym w)
     ∙ ap (λ (l : List ℕ). take 41 (l ++ part)) (take-least len n bytes s)
 
-pub put-is : (out bytes : List ℕ) (at n : ℕ) → at + n ≤ length out → n ≤ length bytes → Put out at (take n bytes) (paste out at bytes n) (at + n)
-put-is out bytes at n h k = record {
-  place = ap (λ (m : ℕ). at + m) (sym (length-take-le n bytes k));
-  front = take-paste out at bytes n (omega arith) k;
-  behind = drop-paste out at bytes n (omega arith) k;
-  size = length-paste out at bytes n h k;
-}
+-- ---- what is put out from a place on
 
-module _ (cols chunk : List ℕ) (r : Registers) (cells : List ℕ) (from : ℕ) (out : List ℕ) (at : ℕ) where
+-- a text at the start of the part from n on
+put-part : (out t : List ℕ) (n : ℕ) → n + length t ≤ length out → Put out n t (take n out ++ (t ++ drop (length t) (drop n out))) (n + length t)
+put-part out t n h =
+    let d = drop (length t) (drop n out) in
+    let l : length (take n out) ≡ n = length-take-le n out (omega arith) in
+    let w : n + length t ≡ length (take n out) + length t = omega arith in
+    let b : length d ≡ length out - n - length t = simp length-drop in
+    record {
+      place = refl;
+      front =
+          ap (λ (m : ℕ). take m (take n out ++ (t ++ d))) w
+          ∙ take-append-add (take n out) (t ++ d) (length t) ∙ ap (λ (x : List ℕ). take n out ++ x) (take-append-seam t d);
+      behind =
+          ap (λ (m : ℕ). drop m (take n out ++ (t ++ d))) w
+          ∙ drop-append-add (take n out) (t ++ d) (length t) ∙ drop-append-seam t d ∙ drop-drop (length t) n out;
+      size = simp length-append (omega arith);
+    }
+
+-- a line executed into that part: its text and what it leaves
+module _ (cols : List ℕ) (st : State) (line out : List ℕ) (n k : ℕ) (part r cells : List ℕ) (room : n + 24 ≤ length out) (few : k ≤ 24)
+    (e : lined k part r cells ≡ lineInto cols st line (drop n out)) where
+  same : lined k part r cells ≡ told (drop n out) (lineOf cols st line)
+  same = e ∙ room-told cols st line (drop n out) (simp length-drop (omega arith))
+
+  pub line-printed : _≡_ {A = Printed} (lineOf cols st line .0, held r cells) (lineOf cols st line)
+  line-printed = ap (λ (s : State). (lineOf cols st line .0, s)) (ap (λ (x : ℕ × List ℕ × State). x .2) same)
+
+  pub line-few : length (lineOf cols st line .0) ≤ 24
+  line-few = let l : k ≡ length (lineOf cols st line .0) = ap (λ (x : ℕ × List ℕ × State). x .0) same in omega arith
+
+  pub line-put : Put out n (lineOf cols st line .0) (take n out ++ part) (n + k)
+  line-put =
+      let l : k ≡ length (lineOf cols st line .0) = ap (λ (x : ℕ × List ℕ × State). x .0) same in
+      let p : part ≡ lineOf cols st line .0 ++ drop (length (lineOf cols st line .0)) (drop n out) = ap (λ (x : ℕ × List ℕ × State). x .1) same in
+      rw (l, p) (put-part out (lineOf cols st line .0) n (omega arith))
+
+-- the part from n on, as it is lent and as it comes back
+mid-rest : (n : ℕ) (out : List ℕ) → midOf n (length out - n) out ≡ drop n out
+mid-rest n out = take-all (length out - n) (drop n out) (omega (arith, length-drop n out))
+
+put-rest : (n : ℕ) (out part : List ℕ) → putMid n (length out - n) out part ≡ take n out ++ part
+put-rest n out part =
+    ap (λ (l : List ℕ). take n out ++ l)
+    (ap (λ (l : List ℕ). part ++ l) (drop-of-length-le (drop n out) {i = length out - n} (omega (arith, length-drop n out))) ∙ append-nil part)
+
+module _ (cols chunk r cells : List ℕ) (from : ℕ) (out : List ℕ) (at : ℕ) where
   pub reached-start : from ≤ length chunk → at + 24 * (length chunk - from) ≤ length out → Reached cols chunk r cells from out at r cells from out at
   reached-start h k = record { same = refl; behind = refl; size = refl; forth = omega arith; within = h; room = k }
 
-  module _ (r₁ : Registers) (cells₁ : List ℕ) (i : ℕ) (out₁ : List ℕ) (n : ℕ) (h : Reached cols chunk r cells from out at r₁ cells₁ i out₁ n) where
-    pub reached-line : (e : ℕ) → e ≡ i + lineLength (drop i chunk) → e < length chunk → (t : List ℕ) (r₂ : Registers) (cells₂ out₂ : List ℕ) (m : ℕ)
-        → _≡_ {A = Printed} (t, record { registers = r₂; cells = cells₂ }) (lineOf cols (record { registers = r₁; cells = cells₁ }) (take (e - i) (drop i chunk)))
+  module _ (r₁ cells₁ : List ℕ) (i : ℕ) (out₁ : List ℕ) (n : ℕ) (h : Reached cols chunk r cells from out at r₁ cells₁ i out₁ n) where
+    reached-put : (e : ℕ) → e ≡ i + lineLength (drop i chunk) → e < length chunk → (t r₂ cells₂ out₂ : List ℕ) (m : ℕ)
+        → _≡_ {A = Printed} (t, held r₂ cells₂) (lineOf cols (held r₁ cells₁) (take (e - i) (drop i chunk)))
         → length t ≤ 24 → Put out₁ n t out₂ m → Reached cols chunk r cells from out at r₂ cells₂ (e + 1) out₂ m
-    reached-line e f g t r₂ cells₂ out₂ m l k p =
+    reached-put e f g t r₂ cells₂ out₂ m l k p =
         let xs = drop i chunk in
         let size = h .size in
         let forth = h .forth in
@@ -60,9 +100,9 @@ module _ (cols chunk : List ℕ) (r : Registers) (cells : List ℕ) (from : ℕ)
         let w : length xs ≡ length chunk - i = length-drop i chunk in
         let u : e - i ≡ lineLength xs = omega arith in
         let v : i + suc (lineLength xs) ≡ e + 1 = omega arith in
-        let line : lineOf cols (record { registers = r₁; cells = cells₁ }) (take (lineLength xs) xs) ≡ (t, record { registers = r₂; cells = cells₂ }) = rw u at (sym l) in
+        let line : lineOf cols (held r₁ cells₁) (take (lineLength xs) xs) ≡ (t, held r₂ cells₂) = rw u at (sym l) in
         let one : fed cols (kept r₁ cells₁ []) xs ≡ after t (fed cols (kept r₂ cells₂ []) (drop (e + 1) chunk)) =
-        fed-line cols (record { registers = r₁; cells = cells₁ }) xs [] (omega arith) ∙ rw (line, drop-drop (suc (lineLength xs)) i chunk, v) in
+        fed-line cols (held r₁ cells₁) xs [] (omega arith) ∙ rw (line, drop-drop (suc (lineLength xs)) i chunk, v) in
         record {
           same =
               h .same ∙ ap (after (take n out₁)) one
@@ -74,13 +114,34 @@ module _ (cols chunk : List ℕ) (r : Registers) (cells : List ℕ) (from : ℕ)
           room = omega arith;
         }
 
-pub bytes-few : (t : Text) → t .len ≤ 24 → length (bytesOf t) ≤ 24
-bytes-few t h = simp length-take (omega arith)
+    -- one line more, executed into the rest of the output
+    pub reached-line : (e : ℕ) → e ≡ i + lineLength (drop i chunk) → e < length chunk → (k : ℕ) (part r₂ cells₂ : List ℕ) → k ≤ 24
+        → lined k part r₂ cells₂ ≡ lineInto cols (held r₁ cells₁) (take (e - i) (drop i chunk)) (midOf n (length out₁ - n) out₁)
+        → Reached cols chunk r cells from out at r₂ cells₂ (e + 1) (putMid n (length out₁ - n) out₁ part) (n + k)
+    reached-line e f g k part r₂ cells₂ few l =
+        let size = h .size in
+        let room = h .room in
+        let line = take (e - i) (drop i chunk) in
+        let st = held r₁ cells₁ in
+        let more : n + 24 ≤ length out₁ = omega arith in
+        let m : lined k part r₂ cells₂ ≡ lineInto cols st line (drop n out₁) = l ∙ ap (lineInto cols st line) (mid-rest n out₁) in
+        reached-put e f g (lineOf cols st line .0) r₂ cells₂ (putMid n (length out₁ - n) out₁ part) (n + k)
+        (line-printed cols st line out₁ n k part r₂ cells₂ more few m) (line-few cols st line out₁ n k part r₂ cells₂ more few m)
+        (rw (put-rest n out₁ part) (line-put cols st line out₁ n k part r₂ cells₂ more few m))
 
-pub ended-line : (cols : List ℕ) (st : State) (l : List ℕ) → 0 < length l → ended cols st l ≡ lineOf cols st l
+ended-line : (cols : List ℕ) (st : State) (l : List ℕ) → 0 < length l → ended cols st l ≡ lineOf cols st l
 unfolding ended
 ended-line cols st [] h = absurd (omega arith)
 ended-line cols st (b ∷ l) h = refl
+
+-- the end of the input, with a byte carried and with none
+pub end-line : (cols : List ℕ) (st : State) (l out : List ℕ) → 0 < length l → endInto cols st l out ≡ lineInto cols st l out
+unfolding endInto lineInto
+end-line cols st l out h = rw (ended-line cols st l h)
+
+pub end-none : (cols : List ℕ) (st : State) (out : List ℕ) → (0, out, st) ≡ endInto cols st [] out
+unfolding endInto ended
+end-none cols st out = byCases (leb 24 (length out)) (λ t. rw t) (λ t. rw t)
 
 -- ---- a whole chunk
 
@@ -98,34 +159,45 @@ module _ (cols : List ℕ) (f : Fed) (chunk out : List ℕ) where
   step-left h = rw (lt-leb (24 * length chunk) (length out) h)
 
 -- the two ways of a taken chunk: without an LF, and with one
-module _ (cols : List ℕ) (r : Registers) (cells c chunk out : List ℕ) (e : ℕ) (first : List ℕ) (room : 24 * length chunk ≤ length out)
+module _ (cols r cells c chunk out : List ℕ) (e : ℕ) (first : List ℕ) (room : 24 * length chunk ≤ length out)
     (end : e ≡ 0 + lineLength (drop 0 chunk)) (few : length c ≤ 41) (start : first ≡ take 41 (c ++ take e chunk)) where
   pub step-plain : e ≡ length chunk → _≡_ {A = Bool × ℕ × Fed × List ℕ} (true, 0, kept r cells first, out) (stepOf cols (kept r cells c) chunk out)
   step-plain h =
       let all : take e chunk ≡ chunk = take-all e chunk (omega arith) in
       step-taken cols (kept r cells c) chunk out room 0 (kept r cells first) out
       (ap (λ (l : List ℕ). ([], kept r cells l)) (start ∙ ap (λ (x : List ℕ). take 41 (c ++ x)) all)
-      ∙ sym (fed-plain cols (record { registers = r; cells = cells }) chunk c (omega arith) few))
+      ∙ sym (fed-plain cols (held r cells) chunk c (omega arith) few))
       (omega arith) refl
 
-  module _ (t : List ℕ) (r₁ : Registers) (cells₁ out₁ : List ℕ) (at₁ : ℕ) (r₂ : Registers) (cells₂ out₂ : List ℕ) (from at₂ : ℕ) (rest : List ℕ)
-      (less : e < length chunk)
-      (line : _≡_ {A = Printed} (t, record { registers = r₁; cells = cells₁ }) (lineOf cols (record { registers = r; cells = cells }) first))
-      (put : Put out 0 t out₁ at₁) (reached : Reached cols chunk r₁ cells₁ (e + 1) out₁ at₁ r₂ cells₂ from out₂ at₂)
+  module _ (at₁ : ℕ) (r₁ cells₁ out₁ r₂ cells₂ out₂ : List ℕ) (from at₂ : ℕ) (rest : List ℕ)
+      (less : e < length chunk) (at-few : at₁ ≤ 24)
+      (printed : lined at₁ out₁ r₁ cells₁ ≡ lineInto cols (held r cells) first out)
+      (reached : Reached cols chunk r₁ cells₁ (e + 1) out₁ at₁ r₂ cells₂ from out₂ at₂)
       (last : lineLength (drop from chunk) ≡ length chunk - from) (carried : rest ≡ take 41 (drop from chunk)) where
+    t : List ℕ
+    t = lineOf cols (held r cells) first .0
+
+    line : _≡_ {A = Printed} (t, held r₁ cells₁) (lineOf cols (held r cells) first)
+    unfolding t
+    line = line-printed cols (held r cells) first out 0 at₁ out₁ r₁ cells₁ (omega arith) at-few printed
+
+    put : Put out 0 t out₁ at₁
+    unfolding t
+    put = rw (zero-add at₁) at (line-put cols (held r cells) first out 0 at₁ out₁ r₁ cells₁ (omega arith) at-few printed)
+
     whole : fed cols (kept r cells c) chunk ≡ after t (fed cols (kept r₁ cells₁ []) (drop (e + 1) chunk))
     whole =
-        let st : State = record { registers = r; cells = cells } in
+        let st : State = held r cells in
         let m : lineLength chunk ≡ e = omega arith in
         let s : suc e ≡ e + 1 = omega arith in
-        let l : lineOf cols st (c ++ take e chunk) ≡ (t, record { registers = r₁; cells = cells₁ }) =
+        let l : lineOf cols st (c ++ take e chunk) ≡ (t, held r₁ cells₁) =
         sym (line-take cols st (c ++ take e chunk)) ∙ ap (lineOf cols st) (sym start) ∙ sym line in
         rw m at (fed-line cols st chunk c (omega arith)) ∙ rw (l, s)
 
     left-over : fed cols (kept r₂ cells₂ []) (drop from chunk) ≡ ([], kept r₂ cells₂ rest)
     left-over =
         let n : lineLength (drop from chunk) ≡ length (drop from chunk) = last ∙ sym (length-drop from chunk) in
-        fed-plain cols (record { registers = r₂; cells = cells₂ }) (drop from chunk) [] n (omega arith) ∙ rw carried
+        fed-plain cols (held r₂ cells₂) (drop from chunk) [] n (omega arith) ∙ rw carried
 
     behind : drop at₂ out₂ ≡ drop at₂ out
     behind =

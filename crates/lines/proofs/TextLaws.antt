@@ -1,7 +1,6 @@
 -- A text in chunks: lines in place, and any cut.
 -- Assumes nothing.
 use mathlib.Core.Path.{_≡_, refl, sym, ap, _∙_}
-use mathlib.Core.Bool.{Bool, true, false, cond}
 use mathlib.Core.List.{List, [], _∷_, _++_, append-assoc, append-nil}
 use Prim.Native.Nat.{ℕ, zero, suc, _+_, _-_, _<_, _≤_}
 use native.Mathlib.Omega.{arith}
@@ -158,11 +157,11 @@ pub length-lf : (l : List ℕ) (i : ℕ) → i < length l → getD l i 0 ≡ 0x0
 unfolding lineLength
 length-lf l i h e = rw (drop-cons l i 0 h, eq-eqb (getD l i 0) 0x0A e)
 
-pub length-other : (l : List ℕ) (i : ℕ) → i < length l → (getD l i 0 ≡ 0x0A → ⊥) → lineLength (drop i l) ≡ suc (lineLength (drop (i + 1) l))
+pub length-past : (l : List ℕ) (i j : ℕ) → i + 1 ≡ j → i < length l → (getD l i 0 ≡ 0x0A → ⊥) → lineLength (drop i l) ≡ suc (lineLength (drop j l))
 unfolding lineLength
-length-other l i h e =
-    let s : i + 1 ≡ suc i = omega arith in
-    rw (s, drop-cons l i 0 h, ne-eqb (getD l i 0) 0x0A e)
+length-past l i j s h e =
+    let t : j ≡ suc i = omega arith in
+    rw (t, drop-cons l i 0 h, ne-eqb (getD l i 0) 0x0A e)
 
 pub length-end : (l : List ℕ) (i : ℕ) → length l ≤ i → lineLength (drop i l) ≡ 0
 unfolding lineLength

@@ -1,4 +1,4 @@
 pub mod Line
 pub mod Text
-pub mod Stepped
 pub mod Printed
+pub mod Stepped

@@ -1,9 +1,8 @@
 -- "The line program": what a line prints, and what it leaves of the record and the cells. The columns of the check code come first.
 -- Assumes nothing.
 use Prim.Native.Nat.{ℕ}
-use mathlib.Core.List.{List, [], _∷_}
+use mathlib.Core.List.{List, []}
 use mathlib.Core.Option.{Option, none, some}
-use Rattle.registers.specs.declared.Registers.{Registers}
 use Rattle.control.specs.Calls.{readAt, declined, written}
 use Rattle.memory.specs.Access.{Access, Call, memory, readRegister, writeRegister}
 use Rattle.memory.specs.Calls.{State, Effect, called}

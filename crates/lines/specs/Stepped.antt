@@ -3,20 +3,20 @@
 use Prim.Native.Nat.{ℕ, _+_, _*_, _-_, _≤_}
 use mathlib.Core.Path.{_≡_}
 use mathlib.Core.Bool.{Bool, true, false, cond}
-use mathlib.Core.List.{List, [], _∷_, _++_}
+use mathlib.Core.List.{List, [], _++_}
 use lib.Dec.{leb}
 use lib.ListN.{length, take, drop}
-use Rattle.registers.specs.declared.Registers.{Registers}
-use Rattle.memory.specs.Calls.{State}
 use Rattle.lines.specs.declared.buffers.Carry.{Carry}
 use Rattle.lines.specs.declared.feed.Stepped.{Stepped}
 use Rattle.lines.specs.Text.{Fed, fed, after}
+use Rattle.lines.specs.Printed.{held}
 
 abbrev pub carriedOf : Carry → List ℕ
 carriedOf c = take (c .len) (c .bytes)
 
-abbrev pub kept : Registers → List ℕ → List ℕ → Fed
-kept r cells c = record { carried = c; state = record { registers = r; cells = cells } }
+-- the bytes of the record, the cells, and what is carried
+abbrev pub kept : List ℕ → List ℕ → List ℕ → Fed
+kept r cells c = record { carried = c; state = held r cells }
 
 -- the output with the bytes b put from a place on: what stands before them stays, and what is behind
 pub record Put (out : List ℕ) (at : ℕ) (b out′ : List ℕ) (at′ : ℕ) : Type 0 where
@@ -26,8 +26,8 @@ pub record Put (out : List ℕ) (at : ℕ) (b out′ : List ℕ) (at′ : ℕ) :
   pub size : length out′ ≡ length out
 
 -- from one place in a chunk and in the output to another: nothing that is fed or printed is lost between them
-pub record Reached (cols chunk : List ℕ) (r : Registers) (cells : List ℕ) (from : ℕ) (out : List ℕ) (at : ℕ)
-    (r′ : Registers) (cells′ : List ℕ) (from′ : ℕ) (out′ : List ℕ) (at′ : ℕ) : Type 0 where
+pub record Reached (cols chunk r cells : List ℕ) (from : ℕ) (out : List ℕ) (at : ℕ)
+    (r′ cells′ : List ℕ) (from′ : ℕ) (out′ : List ℕ) (at′ : ℕ) : Type 0 where
   pub same : after (take at out) (fed cols (kept r cells []) (drop from chunk)) ≡ after (take at′ out′) (fed cols (kept r′ cells′ []) (drop from′ chunk))
   pub behind : drop at′ out′ ≡ drop at′ out
   pub size : length out′ ≡ length out
@@ -43,5 +43,5 @@ stepOf cols f chunk out =
     (true, length (r .0), r .1, r .0 ++ drop (length (r .0)) out)
     (false, 0, f, out)
 
-abbrev pub left : Stepped → List ℕ → List ℕ → Bool × ℕ × Fed × List ℕ
-left x cells out = (x .taken, x .written, kept (x .registers) cells (carriedOf (x .carry)), out)
+abbrev pub left : Stepped → List ℕ → List ℕ → List ℕ → Bool × ℕ × Fed × List ℕ
+left x r cells out = (x .taken, x .written, kept r cells (carriedOf (x .carry)), out)

@@ -1,4 +1,4 @@
-// Bytes in the buffers of a step: the end of a line, what is carried over, what is put out.
+// Bytes in the buffers of a step: the end of a line, and what is carried over.
 ghost use mathlib.Core.Path.{_≡_};
 ghost use Prim.Native.Nat.{_+_, _≤_};
 ghost use mathlib.Core.Bool.{cond};
@@ -6,10 +6,8 @@ ghost use mathlib.Core.List.{_++_};
 ghost use lib.Dec.{ltb};
 ghost use lib.ListN.{length, take, drop};
 ghost use lib.Seq.{paste};
-ghost use Rattle.format.specs.Printed.{bytesOf};
 ghost use Rattle.lines.specs.Text.{lineLength};
-ghost use Rattle.lines.specs.Stepped.{carriedOf, Put};
-use format::Text;
+ghost use Rattle.lines.specs.Stepped.{carriedOf};
 
 // The bytes since the last LF: 41 of them tell a line that is too long.
 pub struct Carry {
@@ -17,8 +15,8 @@ pub struct Carry {
     pub len: usize,
 }
 
-// The place of the first LF from a place on, or the length.
-pub(crate) fn line_end(chunk: &[u8], from: usize) -> usize
+// The place of the first LF from a place on, or the length: one byte at a time.
+fn rest_end(chunk: &[u8], from: usize) -> usize
     requires { ⌜ from ≤ length (now chunk) ⌝ }
     ensures { λ r. ⌜ (r ≡ from + lineLength (drop from (now (chunk .entry)))) × (r ≤ length (now (chunk .entry))) ⌝ }
 {
@@ -30,6 +28,30 @@ pub(crate) fn line_end(chunk: &[u8], from: usize) -> usize
         i += 1;
     }
     i
+}
+
+// The same, four bytes at a time: most lines are short, and the turns of the loop cost more than the tests.
+pub(crate) fn line_end(chunk: &[u8], from: usize) -> usize
+    requires { ⌜ from ≤ length (now chunk) ⌝ }
+    ensures { λ r. ⌜ (r ≡ from + lineLength (drop from (now (chunk .entry)))) × (r ≤ length (now (chunk .entry))) ⌝ }
+{
+    let mut i = from;
+    while 4 <= chunk.len() - i {
+        if chunk[i] == 0x0a {
+            return i;
+        }
+        if chunk[i + 1] == 0x0a {
+            return i + 1;
+        }
+        if chunk[i + 2] == 0x0a {
+            return i + 2;
+        }
+        if chunk[i + 3] == 0x0a {
+            return i + 3;
+        }
+        i += 4;
+    }
+    rest_end(chunk, i)
 }
 
 // The first n bytes of src, put into dst from a place on.
@@ -62,23 +84,4 @@ pub(crate) fn joined(start: [u8; 41], len: usize, part: &[u8]) -> Carry
         bytes: bytes,
         len: n + more,
     }
-}
-
-// The first n of these bytes, put into the output from a place on.
-fn put_bytes(out: &mut [u8], at: usize, bytes: [u8; 24], n: usize)
-    requires { ⌜ (at + 24 ≤ length (now out)) × (n ≤ 24) ⌝ }
-    ensures { λ _. ⌜ Put (now (out .entry)) at (take n bytes) (now (out .exit)) (at + n) ⌝ }
-{
-    copy(&bytes, n, out, at);
-}
-
-// An output line put into the output from a place on.
-pub(crate) fn put(out: &mut [u8], at: usize, text: Text) -> usize
-    requires { ⌜ (at + 24 ≤ length (now out)) × (text .len ≤ 24) ⌝ }
-    ensures { λ r. ⌜ Put (now (out .entry)) at (bytesOf text) (now (out .exit)) r ⌝ }
-{
-    let bytes = text.bytes;
-    let n = text.len;
-    put_bytes(out, at, bytes, n);
-    at + n
 }

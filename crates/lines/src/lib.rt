@@ -7,5 +7,4 @@ pub use buffers::Carry;
 pub use feed::Stepped;
 pub use feed::finish;
 pub use feed::step;
-pub use line::Lined;
 pub use line::execute;

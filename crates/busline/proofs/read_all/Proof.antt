@@ -6,22 +6,16 @@ use Rattle.busline.proofs.read_all.Statement.{statement}
 use Rattle.busline.proofs.read_all.Tie as tie
 
 abbrev Inv-loop : tie.InvT-loop
-Inv-loop cells₀ chunk₀ out₀ registers₀ carry₀ turns₀ cells chunk out registers carry turns = (length cells ≡ length cells₀) × (length chunk ≡ length chunk₀) × (length out ≡ length out₀)
+Inv-loop registers₀ cells₀ chunk₀ out₀ carry₀ turns₀ registers cells chunk out carry turns = (length cells ≡ length cells₀) × (length chunk ≡ length chunk₀) × (length out ≡ length out₀)
 
 abbrev μ-loop : tie.MeasureT-loop
-μ-loop cells₀ chunk₀ out₀ registers₀ carry₀ turns₀ cells chunk out registers carry turns = turns
-
-fresh-requires : tie.Need-fresh-requires Inv-loop μ-loop
-fresh-requires c κs = tt
+μ-loop registers₀ cells₀ chunk₀ out₀ carry₀ turns₀ registers cells chunk out carry turns = turns
 
 loop-holds : tie.Need-loop-holds Inv-loop μ-loop
 loop-holds c = (refl, refl, refl)
 
 turn-requires : tie.Need-turn-requires Inv-loop μ-loop
 turn-requires c κs = tt
-
-stopped-requires : tie.Need-stopped-requires Inv-loop μ-loop
-stopped-requires c κs = tt
 
 same-length : tie.Need-same-length Inv-loop μ-loop
 same-length c = search needs
@@ -44,9 +38,6 @@ loop-less c = omega arith
 loop-again : tie.Need-loop-again Inv-loop μ-loop
 loop-again c = (search needs, search needs, search needs)
 
-stopped-requires-2 : tie.Need-stopped-requires-2 Inv-loop μ-loop
-stopped-requires-2 c κs = tt
-
 same-length-4 : tie.Need-same-length-4 Inv-loop μ-loop
 same-length-4 c = search needs
 
@@ -65,10 +56,8 @@ read-all-spec =
     (tie.spec
     Inv-loop
     μ-loop
-    fresh-requires
     loop-holds
     turn-requires
-    stopped-requires
     same-length
     same-length-2
     same-length-3
@@ -76,7 +65,6 @@ read-all-spec =
     sub-turns
     loop-less
     loop-again
-    stopped-requires-2
     same-length-4
     same-length-5
     same-length-6

@@ -1,6 +1,6 @@
-use Prim.Native.Nat.{_≤_, _-_}
+use Prim.Native.Nat.{_-_}
 use native.Mathlib.Omega.{arith}
-use mathlib.Core.Path.{refl, sym}
+use mathlib.Core.Path.{sym}
 use Rattle.format.specs.Digits.{decimalDigit}
 use Rattle.format.proofs.DigitLaws.{below-some, in-range}
 use Rattle.format.proofs.digits.decimal_digit.Statement.{statement}

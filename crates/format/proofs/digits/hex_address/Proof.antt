@@ -1,5 +1,5 @@
 use native.Mathlib.Omega.{arith}
-use mathlib.Core.Path.{refl, _∙_}
+use mathlib.Core.Path.{_∙_}
 use Rattle.format.proofs.DigitLaws.{address-at, four-below}
 use borrow.Author.Needs.{needs}
 use Rattle.format.proofs.digits.hex_address.Statement.{statement}

@@ -1,13 +1,10 @@
 use native.Mathlib.Omega.{arith}
 use mathlib.Core.Path.{sym, _∙_}
-use lib.ListN.{drop, length-drop}
-use Rattle.memory.specs.Access.{memory, read, flip, write, scrub, readRegister, writeRegister}
-use Rattle.format.specs.Digits.{hexField, decimalField, bytesField}
+use Rattle.format.specs.Digits.{decimalField}
 use Rattle.format.proofs.DigitLaws.{below-some, below-none, decimal-empty}
 use Rattle.format.proofs.PlainLaws.{decimalField-plain}
 use Rattle.format.proofs.FieldLaws.{two-is, two-unparted, two-lacking}
-use Prim.Native.Nat.{_≤_, _-_, _^_}
-use mathlib.Core.Path.{_≡_}
+use Prim.Native.Nat.{_-_, _^_}
 use borrow.Author.Needs.{needs}
 use Rattle.format.proofs.memory_lines.parse_aimed.Statement.{statement}
 use Rattle.format.proofs.memory_lines.parse_aimed.Tie as tie

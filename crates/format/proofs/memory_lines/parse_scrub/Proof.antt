@@ -1,12 +1,9 @@
 use native.Mathlib.Omega.{arith}
 use mathlib.Core.Path.{sym, _∙_}
-use lib.ListN.{drop, length-drop}
-use Rattle.memory.specs.Access.{memory, read, flip, write, scrub, readRegister, writeRegister}
-use Rattle.format.specs.Digits.{hexField, decimalField, bytesField}
+use Rattle.memory.specs.Access.{memory, scrub}
 use Rattle.format.proofs.DigitLaws.{below-some, below-none}
 use Rattle.format.proofs.FormatLaws.{scrub-is, one-lacks}
-use Prim.Native.Nat.{_≤_, _-_, _^_}
-use mathlib.Core.Path.{_≡_}
+use Prim.Native.Nat.{_-_, _^_}
 use borrow.Author.Needs.{needs}
 use Rattle.format.proofs.memory_lines.parse_scrub.Statement.{statement}
 use Rattle.format.proofs.memory_lines.parse_scrub.Tie as tie

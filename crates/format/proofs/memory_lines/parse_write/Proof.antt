@@ -1,13 +1,12 @@
 use native.Mathlib.Omega.{arith}
 use mathlib.Core.Path.{sym, _∙_}
 use lib.ListN.{drop, length-drop}
-use Rattle.memory.specs.Access.{memory, read, flip, write, scrub, readRegister, writeRegister}
-use Rattle.format.specs.Digits.{hexField, decimalField, bytesField}
+use Rattle.memory.specs.Access.{memory, write}
+use Rattle.format.specs.Digits.{bytesField}
 use Rattle.format.proofs.DigitLaws.{below-some, below-none}
 use Rattle.format.proofs.PlainLaws.{bytesField-plain}
 use Rattle.format.proofs.FieldLaws.{two-is, two-unparted, two-lacking}
-use Prim.Native.Nat.{_≤_, _-_, _^_}
-use mathlib.Core.Path.{_≡_}
+use Prim.Native.Nat.{_-_, _^_}
 use Rattle.format.proofs.ByteLaws.{bytes-long, short-bytes, odd-bytes, whole-bytes}
 use borrow.Author.Needs.{needs}
 use Rattle.format.proofs.memory_lines.parse_write.Statement.{statement}

@@ -1,8 +1,14 @@
-use mathlib.Core.Path.{refl, sym, ap, _∙_}
+use native.Mathlib.Omega.{arith}
+use mathlib.Core.Path.{sym, ap, _∙_}
+use Rattle.format.proofs.PrintLaws.{put-none, put-is}
 use Rattle.format.specs.Output.{refusedText}
+use Rattle.format.specs.Printed.{briefText}
 use borrow.Author.Needs.{needs}
 use Rattle.format.proofs.print.brief.Statement.{statement}
 use Rattle.format.proofs.print.brief.Tie as tie
+
+returns : tie.Need-returns
+returns c = (put-none _ (c .before .before .args .out .now) (omega arith), omega arith)
 
 enum-known-answer : tie.Need-enum-known-answer
 enum-known-answer c = search needs
@@ -19,20 +25,33 @@ enum-known-answer-2 c = search needs
 answer-requires : tie.Need-answer-requires
 answer-requires c κs = search needs
 
-returns : tie.Need-returns
-returns c = (rw (c .before .before .before .answer .given .1) (c .refused .ensures .0 ∙ ap (refusedText (c .before .before .before .before .before .args .letter)) (c .before .number .ensures)), c .refused .ensures .1)
+same-length : tie.Need-same-length
+same-length c = search needs
 
 returns-2 : tie.Need-returns-2
-returns-2 c = (rw (c .before .before .answer2 .given .1) (c .answer3 .ensures .0), c .answer3 .ensures .1)
+returns-2 c =
+    let a = c .before .before .before .before .before .before .before .before .before .before .args in
+    (put-is _ _ (briefText (a .letter) (a .answer)) (a .out .now) _ (omega arith) (c .before .before .refused .ensures .0) (ap (refusedText (a .letter)) (c .before .before .before .before .number .ensures) ∙ sym (ap (briefText (a .letter)) (c .before .before .before .before .before .before .answer .given .1))), c .before .before .refused .ensures .1)
+
+same-length-2 : tie.Need-same-length-2
+same-length-2 c = search needs
+
+returns-3 : tie.Need-returns-3
+returns-3 c =
+    let a = c .before .before .before .before .before .before .before .before .before .args in
+    (put-is _ _ (briefText (a .letter) (a .answer)) (a .out .now) _ (omega arith) (c .before .before .answer3 .ensures .0) (sym (ap (briefText (a .letter)) (c .before .before .before .before .before .answer2 .given .1))), c .before .before .answer3 .ensures .1)
 
 pub brief-spec : {M : Type 1} → statement M
 brief-spec =
     tie.close
     (tie.spec
+    returns
     enum-known-answer
     number-requires
     refused-requires
     enum-known-answer-2
     answer-requires
-    returns
-    returns-2)
+    same-length
+    returns-2
+    same-length-2
+    returns-3)

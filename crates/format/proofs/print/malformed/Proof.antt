@@ -1,8 +1,13 @@
-use mathlib.Core.Path.{ap, _∙_}
+use native.Mathlib.Omega.{arith}
+use mathlib.Core.Path.{ap}
+use Rattle.format.proofs.PrintLaws.{put-none, put-is}
 use Rattle.format.specs.Output.{malformedText, refusedText}
 use borrow.Author.Needs.{needs}
 use Rattle.format.proofs.print.malformed.Statement.{statement}
 use Rattle.format.proofs.print.malformed.Tie as tie
+
+returns : tie.Need-returns
+returns c = (put-none _ (c .before .before .args .out .now) (omega arith), omega arith)
 
 number-requires : tie.Need-number-requires
 number-requires c κs = search needs
@@ -10,9 +15,15 @@ number-requires c κs = search needs
 refused-requires : tie.Need-refused-requires
 refused-requires c κs = search needs
 
-returns : tie.Need-returns
+same-length : tie.Need-same-length
+same-length c = search needs
+
+returns-2 : tie.Need-returns-2
 unfolding malformedText
-returns c = (c .refused .ensures .0 ∙ ap (refusedText 0x3F) (c .before .number .ensures), c .refused .ensures .1)
+returns-2 c =
+    let a = c .before .before .before .before .before .before .before .args in
+    (put-is _ _ malformedText (a .out .now) _ (omega arith) (c .before .before .refused .ensures .0) (ap (refusedText 0x3F) (c .before .before .before .before .number .ensures)), c .before .before .refused .ensures .1)
 
 pub malformed-spec : {M : Type 1} → statement M
-malformed-spec = tie.close (tie.spec number-requires refused-requires returns)
+malformed-spec =
+    tie.close (tie.spec returns number-requires refused-requires same-length returns-2)

@@ -1,14 +1,13 @@
 use native.Mathlib.Omega.{arith}
 use mathlib.Core.Path.{sym, _∙_}
 use lib.ListN.{drop, length-drop}
-use Rattle.memory.specs.Access.{memory, read, flip, write, scrub, readRegister, writeRegister}
-use Rattle.format.specs.Digits.{hexField, decimalField, bytesField}
+use Rattle.memory.specs.Access.{writeRegister}
+use Rattle.format.specs.Digits.{hexField}
 use Rattle.format.proofs.DigitLaws.{below-some, below-none, field-lacks}
 use Rattle.format.proofs.PlainLaws.{hexField-plain}
 use Rattle.format.proofs.FieldLaws.{two-unparted, two-lacking}
 use Rattle.format.proofs.FormatLaws.{set-is}
-use Prim.Native.Nat.{_≤_, _-_, _^_}
-use mathlib.Core.Path.{_≡_}
+use Prim.Native.Nat.{_-_}
 use borrow.Author.Needs.{needs}
 use Rattle.format.proofs.register_lines.parse_set.Statement.{statement}
 use Rattle.format.proofs.register_lines.parse_set.Tie as tie

@@ -1,40 +1,43 @@
 use native.Mathlib.Omega.{arith}
-use mathlib.Core.Path.{_≡_, refl, _∙_}
-use mathlib.Core.Bool.{cond}
-use mathlib.Core.List.{[], _∷_}
-use lib.Dec.{ltb}
-use lib.ListN.{length}
-use Rattle.format.proofs.PrintLaws.{take-least, line-end}
+use mathlib.Core.Path.{_≡_, refl, ap, _∙_}
+use mathlib.Core.List.{List, [], _∷_, _++_}
+use Prim.Native.Nat.{ℕ}
+use lib.ListN.{length, length-set}
+use lib.Seq.{length-sets}
+use Rattle.format.specs.Digits.{hexPairs}
+use Rattle.format.specs.Printed.{laid}
+use Rattle.format.proofs.PrintLaws.{data-laid}
 use borrow.Author.Needs.{needs}
 use Rattle.format.proofs.text.data.Statement.{statement}
 use Rattle.format.proofs.text.data.Tie as tie
 
-array-write-start : tie.Need-array-write-start
-array-write-start c = search needs
+-- the six bytes before the digits
+abbrev start : ℕ → List ℕ
+start k = 0x72 ∷ 0x2C ∷ 0x30 ∷ 0x2C ∷ k ∷ 0x2C ∷ []
 
-array-write-start-2 : tie.Need-array-write-start-2
-array-write-start-2 c = search needs
+slice-write-out : tie.Need-slice-write-out
+slice-write-out c = search needs
 
-array-write-start-3 : tie.Need-array-write-start-3
-array-write-start-3 c = search needs
+slice-write-out-2 : tie.Need-slice-write-out-2
+slice-write-out-2 c = simp length-set (omega arith)
 
-array-write-start-4 : tie.Need-array-write-start-4
-array-write-start-4 c = search needs
+slice-write-out-3 : tie.Need-slice-write-out-3
+slice-write-out-3 c = simp length-set (omega arith)
+
+slice-write-out-4 : tie.Need-slice-write-out-4
+slice-write-out-4 c = simp length-set (omega arith)
 
 kind-letter-requires : tie.Need-kind-letter-requires
 kind-letter-requires c κs = search needs
 
-array-write-start-5 : tie.Need-array-write-start-5
-array-write-start-5 c = search needs
+slice-write-out-5 : tie.Need-slice-write-out-5
+slice-write-out-5 c = simp length-set (omega arith)
 
-array-write-start-6 : tie.Need-array-write-start-6
-array-write-start-6 c = search needs
+slice-write-out-6 : tie.Need-slice-write-out-6
+slice-write-out-6 c = simp length-set (omega arith)
 
-with-pairs-requires : tie.Need-with-pairs-requires
-with-pairs-requires c κs = search needs
-
-at-most-eight-requires : tie.Need-at-most-eight-requires
-at-most-eight-requires c κs = search needs
+put-pairs-requires : tie.Need-put-pairs-requires
+put-pairs-requires c κs = search needs
 
 mul-end : tie.Need-mul-end
 mul-end c = search needs
@@ -42,20 +45,27 @@ mul-end c = search needs
 add-end : tie.Need-add-end
 add-end c = search needs
 
-array-write-text : tie.Need-array-write-text
-array-write-text c = search needs
+slice-write-out-7 : tie.Need-slice-write-out-7
+slice-write-out-7 c =
+    let out = c .before .before .before .before .before .before .before .args .out .now in
+    let same : length (c .before .before .put-pairs .last .1 .0) ≡ length out = c .before .out .given ∙ length-sets out 0 (start (c .before .before .before .before .kind-letter .result)) in
+    omega arith
 
-add-t23 : tie.Need-add-t23
-add-t23 c = search needs
+add-result : tie.Need-add-result
+add-result c = search needs
+
+same-length : tie.Need-same-length
+same-length c =
+    let out = c .before .before .before .before .before .before .before .args .out .now in
+    simp length-set (c .before .out .given ∙ length-sets out 0 (start (c .before .before .before .before .kind-letter .result)))
 
 returns : tie.Need-returns
 returns c =
-    let a = c .before .before .before .args in
-    let n = c .at-most-eight .result in
-    let eight : length (a .bytes) ≡ 8 = search needs in
-    let least : n ≡ cond (ltb (a .count) (length (a .bytes))) (a .count) (length (a .bytes)) = rw eight (c .at-most-eight .ensures .0) in (
-      line-end (0x72 ∷ 0x2C ∷ 0x30 ∷ 0x2C ∷ c .before .before .kind-letter .result ∷ 0x2C ∷ []) (c .before .with-pairs .result) (a .bytes) n (a .count) refl (c .before .with-pairs .ensures .0) (c .at-most-eight .ensures .1) (take-least (a .count) n (a .bytes) least) (c .before .with-pairs .ensures .1)
-          ∙ rw (c .before .before .kind-letter .ensures),
+    let a = c .before .before .before .before .before .before .before .args in
+    let k = c .before .before .before .before .kind-letter in
+    let p = c .before .before .put-pairs in (
+      data-laid (start (k .result)) (a .bytes .now) (a .out .now) (p .last .1 .0) refl (omega arith) (omega arith) (c .before .out .given ∙ length-sets (a .out .now) 0 (start (k .result))) (p .ensures .0) (p .ensures .1)
+          ∙ ap (λ (x : ℕ). laid (start x ++ (hexPairs (a .bytes .now) ++ (0x0A ∷ []))) (a .out .now)) (k .ensures),
       omega arith,
     )
 
@@ -63,17 +73,17 @@ pub data-spec : {M : Type 1} → statement M
 data-spec =
     tie.close
     (tie.spec
-    array-write-start
-    array-write-start-2
-    array-write-start-3
-    array-write-start-4
+    slice-write-out
+    slice-write-out-2
+    slice-write-out-3
+    slice-write-out-4
     kind-letter-requires
-    array-write-start-5
-    array-write-start-6
-    with-pairs-requires
-    at-most-eight-requires
+    slice-write-out-5
+    slice-write-out-6
+    put-pairs-requires
     mul-end
     add-end
-    array-write-text
-    add-t23
+    slice-write-out-7
+    add-result
+    same-length
     returns)

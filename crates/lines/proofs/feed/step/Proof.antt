@@ -1,22 +1,26 @@
 use native.Mathlib.Omega.{arith}
-use mathlib.Core.Path.{_≡_, refl, sym, ap, _∙_}
+use mathlib.Core.Path.{sym, ap, _∙_}
 use Prim.Native.Nat.{_-_}
-use lib.Seq.{length-take-le, take-all}
 use lib.ListN.{length, take, drop, length-drop}
+use lib.Seq.{length-take-le, take-all}
 use Rattle.ecc.specs.Columns.{columns}
-use Rattle.lines.proofs.StepLaws.{step-left, step-plain, step-lines, bytes-few}
+use Rattle.lines.proofs.StepLaws.{step-left, step-plain, step-lines}
 use borrow.Author.Needs.{needs}
 use Rattle.lines.proofs.feed.step.Statement.{statement}
 use Rattle.lines.proofs.feed.step.Tie as tie
 
 returns : tie.Need-returns
-returns c = (step-left columns _ (c .before .before .before .before .args .chunk .now) (c .before .before .before .before .args .out .now) (omega arith), omega arith)
+returns c =
+    let a = c .before .before .before .before .args in
+    (step-left columns _ (a .chunk .now) (a .out .now) (omega arith), omega arith)
 
 line-end-requires : tie.Need-line-end-requires
 line-end-requires c κs = search needs
 
 slice-aggregate-joined : tie.Need-slice-aggregate-joined
-slice-aggregate-joined c = sym (length-take-le (c .before .before .line-end .result) (c .before .before .before .before .before .before .before .args .chunk .now) (c .before .before .line-end .ensures .1))
+slice-aggregate-joined c =
+    let e = c .before .before .line-end in
+    sym (length-take-le (e .result) (c .before .before .before .before .before .before .before .args .chunk .now) (e .ensures .1))
 
 joined-requires : tie.Need-joined-requires
 joined-requires c κs = search needs
@@ -24,31 +28,18 @@ joined-requires c κs = search needs
 returns-2 : tie.Need-returns-2
 returns-2 c =
     let a = c .before .before .before .before .before .before .before .before .before .args in
-    (step-plain columns (a .registers) (a .cells .now) _ (a .chunk .now) (a .out .now) (c .before .before .before .before .line-end .result) _ (omega arith) (c .before .before .before .before .line-end .ensures .0) (c .before .joined .ensures .1) (c .before .joined .ensures .0) (c .if2 .taken), omega arith)
+    let e = c .before .before .before .before .line-end in
+    let first = c .before .joined in
+    (step-plain columns (a .registers .now) (a .cells .now) _ (a .chunk .now) (a .out .now) (e .result) _ (omega arith) (e .ensures .0) (first .ensures .1) (first .ensures .0) (c .if2 .taken), omega arith)
 
-line-in-requires : tie.Need-line-in-requires
-line-in-requires c κs = search needs
-
-put-requires : tie.Need-put-requires
-put-requires c κs = search needs
+carried-line-requires : tie.Need-carried-line-requires
+carried-line-requires c κs = search needs
 
 add-whole-lines : tie.Need-add-whole-lines
-add-whole-lines c =
-    let good = c .before .before .before .before .before .before .before .before .before .before .before .before .before .before .before .before .before .before .before .before .before .good .1 .1 .1 .0 .0 in
-    let e = c .before .before .before .before .before .before .before .before .before .before .before .before .before .before .before .before .line-end .ensures .1 in
-    let d = c .before .before .before .before .before .before .before .before .before .before .before .before .if2 .left in
-    omega arith
+add-whole-lines c = search needs
 
 whole-lines-requires : tie.Need-whole-lines-requires
-whole-lines-requires c κs =
-    let e = c .before .before .before .before .before .before .before .before .before .before .before .before .before .before .before .before .before .line-end .ensures .1 in
-    let d = c .before .before .before .before .before .before .before .before .before .before .before .before .before .if2 .left in
-    let r = c .before .before .before .before .before .before .before .before .before .before .before .before .before .before .before .before .before .before .if1 .left in
-    let p = c .before .before .before .before .put .ensures in
-    let s = p .size in
-    let w = p .place in
-    let f = bytes-few (c .before .before .before .before .before .before .before .before .before .before .line-in .result .text) (c .before .before .before .before .before .before .before .before .before .before .line-in .ensures .1) in
-    (omega arith, omega arith)
+whole-lines-requires c κs = search needs
 
 sub-joined : tie.Need-sub-joined
 sub-joined c = search needs
@@ -70,16 +61,22 @@ same-length-2 c = search needs
 
 returns-3 : tie.Need-returns-3
 returns-3 c =
-    let a = c .before .before .before .before .before .before .before .before .before .before .before .before .before .before .before .before .before .before .before .before .before .before .before .before .before .before .before .before .before .before .args in
-    let e = c .before .before .before .before .before .before .before .before .before .before .before .before .before .before .before .before .before .before .before .before .before .before .before .before .before .line-end .ensures .1 in
-    let d = c .before .before .before .before .before .before .before .before .before .before .before .before .before .before .before .before .before .before .before .before .before .if2 .left in
-    let r = c .before .before .before .before .before .before .before .before .before .before .before .before .before .before .before .before .before .before .before .before .before .before .before .before .before .before .if1 .left in
-    let w = c .before .before .before .before .before .before .before .whole-lines .ensures .0 in
+    let a = c .before .before .before .before .before .before .before .before .before .before .before .before .before .before .before .before .before .before .before .before .before .before .before .before .before .before .before .args in
+    let enough = c .before .before .before .before .before .before .before .before .before .before .before .before .before .before .before .before .before .before .before .before .before .before .before .if1 .left in
+    let e = c .before .before .before .before .before .before .before .before .before .before .before .before .before .before .before .before .before .before .before .before .before .before .line-end in
+    let first = c .before .before .before .before .before .before .before .before .before .before .before .before .before .before .before .before .before .before .before .joined in
+    let found = c .before .before .before .before .before .before .before .before .before .before .before .before .before .before .before .before .before .before .if2 .left in
+    let line = c .before .before .before .before .before .before .before .before .before .before .before .before .before .before .carried-line in
+    let all = c .before .before .before .before .before .before .whole-lines in
+    let within = e .ensures .1 in
+    let w = all .ensures .0 in
     let m = w .room in
     let s = w .size in
-    let x = c .before .before .before .before .before .before .before .whole-lines .result .from in (
-      step-lines columns (a .registers) (a .cells .now) _ (a .chunk .now) (a .out .now) (c .before .before .before .before .before .before .before .before .before .before .before .before .before .before .before .before .before .before .before .before .before .before .before .before .before .line-end .result) _ (omega arith) (c .before .before .before .before .before .before .before .before .before .before .before .before .before .before .before .before .before .before .before .before .before .before .before .before .before .line-end .ensures .0) (c .before .before .before .before .before .before .before .before .before .before .before .before .before .before .before .before .before .before .before .before .before .before .joined .ensures .1) (c .before .before .before .before .before .before .before .before .before .before .before .before .before .before .before .before .before .before .before .before .before .before .joined .ensures .0)
-          _ _ _ _ _ _ _ _ _ _ _ (omega arith) (c .before .before .before .before .before .before .before .before .before .before .before .before .before .before .before .before .before .before .line-in .ensures .0) (c .before .before .before .before .before .before .before .before .before .before .before .before .put .ensures) w (c .before .before .before .before .before .before .before .whole-lines .ensures .1) (c .joined2 .ensures .0 ∙ ap (take 41) (take-all (length (a .chunk .now) - x) (drop x (a .chunk .now)) (omega (arith, length-drop x (a .chunk .now))))),
+    let x = all .result .from in (
+      step-lines columns (a .registers .now) (a .cells .now) _ (a .chunk .now) (a .out .now) (e .result) _ (omega arith) (e .ensures .0) (first .ensures .1) (first .ensures .0)
+          (line .result) (line .last .0) (line .last .1 .0) (line .last .1 .1 .1 .0) (all .last .0) (all .last .1 .0) (all .last .1 .1 .1 .1 .0) x (all .result .at) _
+          (omega arith) (line .ensures .1) (line .ensures .0) w (all .ensures .1)
+          (c .joined2 .ensures .0 ∙ ap (take 41) (take-all (length (a .chunk .now) - x) (drop x (a .chunk .now)) (omega (arith, length-drop x (a .chunk .now))))),
       omega arith,
     )
 
@@ -92,8 +89,7 @@ step-spec =
     slice-aggregate-joined
     joined-requires
     returns-2
-    line-in-requires
-    put-requires
+    carried-line-requires
     add-whole-lines
     whole-lines-requires
     sub-joined

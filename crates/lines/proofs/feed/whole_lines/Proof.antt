@@ -1,20 +1,19 @@
-use Prim.Native.Nat.{_+_, _-_, _≤_}
+use Prim.Native.Nat.{_-_}
 use native.Mathlib.Omega.{arith}
-use mathlib.Core.Path.{_≡_, refl, sym, ap, _∙_}
-use lib.ListN.{length, drop, length-take, length-drop}
+use mathlib.Core.Path.{_≡_, refl, _∙_}
+use lib.ListN.{length}
 use Rattle.ecc.specs.Columns.{columns}
 use Rattle.lines.specs.Stepped.{Reached}
-use Rattle.lines.specs.Text.{lineLength}
 use Rattle.lines.proofs.TextLaws.{length-end}
-use Rattle.lines.proofs.StepLaws.{reached-start, reached-line, bytes-few}
+use Rattle.lines.proofs.StepLaws.{reached-start, reached-line}
 use Rattle.lines.proofs.feed.whole_lines.Statement.{statement}
 use Rattle.lines.proofs.feed.whole_lines.Tie as tie
 
 abbrev Inv-loop : tie.InvT-loop
-Inv-loop cells₀ chunk from out₀ at state₀ i₀ n₀ cells out state i n = Reached columns chunk state₀ cells₀ from out₀ at state cells i out n × (length cells ≡ length cells₀)
+Inv-loop registers₀ cells₀ chunk from out₀ at i₀ n₀ registers cells out i n = Reached columns chunk registers₀ cells₀ from out₀ at registers cells i out n × (length cells ≡ length cells₀)
 
 abbrev μ-loop : tie.MeasureT-loop
-μ-loop cells₀ chunk from out₀ at state₀ i₀ n₀ cells out state i n = length chunk - i
+μ-loop registers₀ cells₀ chunk from out₀ at i₀ n₀ registers cells out i n = length chunk - i
 
 loop-holds : tie.Need-loop-holds Inv-loop μ-loop
 loop-holds c = (reached-start _ _ _ _ _ _ _ (omega arith) (omega arith), refl)
@@ -31,11 +30,40 @@ part-execute-start c = omega arith
 part-execute-end : tie.Need-part-execute-end Inv-loop μ-loop
 part-execute-end c = omega arith
 
+sub-execute-2 : tie.Need-sub-execute-2 Inv-loop μ-loop
+sub-execute-2 c =
+    let h = c .before .before .before .before .before .before .loop .inv .0 in
+    let s = h .size in
+    let r = h .room in
+    let w = h .within in
+    omega arith
+
+part-execute-start-2 : tie.Need-part-execute-start-2 Inv-loop μ-loop
+part-execute-start-2 c =
+    let h = c .before .before .before .before .before .before .loop .inv .0 in
+    let s = h .size in
+    let r = h .room in
+    let w = h .within in
+    omega arith
+
+part-execute-end-2 : tie.Need-part-execute-end-2 Inv-loop μ-loop
+part-execute-end-2 c =
+    let h = c .before .before .before .before .before .before .loop .inv .0 in
+    let s = h .size in
+    let r = h .room in
+    let w = h .within in
+    omega arith
+
 execute-requires : tie.Need-execute-requires Inv-loop μ-loop
 execute-requires c κs = tt
 
-put-requires : tie.Need-put-requires Inv-loop μ-loop
-put-requires c κs = let h = c .before .before .before .before .before .before .before .before .before .before .before .loop .inv .0 in let s = h .size in let r = h .room in (omega arith, c .before .before .before .before .before .execute .ensures .1)
+add-n : tie.Need-add-n Inv-loop μ-loop
+add-n c =
+    let h = c .before .before .before .before .before .before .before .before .before .before .before .before .loop .inv .0 in
+    let k = c .before .before .before .before .execute .ensures .1 in
+    let s = h .size in
+    let r = h .room in
+    omega arith
 
 add-i : tie.Need-add-i Inv-loop μ-loop
 add-i c = omega arith
@@ -44,11 +72,14 @@ loop-less : tie.Need-loop-less Inv-loop μ-loop
 loop-less c = omega arith
 
 loop-again : tie.Need-loop-again Inv-loop μ-loop
-loop-again c = (
-  reached-line columns (c .before .before .before .before .before .before .before .before .before .before .before .before .before .before .before .before .before .before .args .chunk .now) _ _ _ _ _ _ _ (c .before .before .before .before .before .before .before .before .before .before .before .before .before .before .loop .i) _ (c .before .before .before .before .before .before .before .before .before .before .before .before .before .before .loop .n) (c .before .before .before .before .before .before .before .before .before .before .before .before .before .before .loop .inv .0) (c .before .before .before .before .before .before .before .before .before .before .before .before .line-end .result) (c .before .before .before .before .before .before .before .before .before .before .before .before .line-end .ensures .0) (omega arith)
-      _ _ _ _ _ (c .before .before .before .before .before .before .before .before .execute .ensures .0) (bytes-few _ (c .before .before .before .before .before .before .before .before .execute .ensures .1)) (c .before .before .put .ensures),
-  omega (arith, c .before .before .before .before .before .before .before .cells .given, c .before .before .before .before .before .before .before .before .before .before .before .before .before .before .loop .inv .1),
-)
+loop-again c =
+    let a = c .before .before .before .before .before .before .before .before .before .before .before .before .before .before .before .before .args in
+    let at = c .before .before .before .before .before .before .before .before .before .before .before .before .loop in
+    let e = c .before .before .before .before .before .before .before .before .before .before .line-end in
+    let x = c .before .before .before .before .execute in (
+      reached-line columns (a .chunk .now) (a .registers .now) (a .cells .now) (a .from) (a .out .now) (a .at) (at .registers) (at .cells) (at .i) (at .out) (at .n) (at .inv .0) (e .result) (e .ensures .0) (omega arith) (x .result) (x .last .1 .1 .1 .0) (x .last .0) (x .last .1 .0) (x .ensures .1) (x .ensures .0),
+      c .before .before .before .cells .given ∙ at .inv .1,
+    )
 
 same-length : tie.Need-same-length Inv-loop μ-loop
 same-length c = c .before .loop .inv .1
@@ -79,8 +110,11 @@ whole-lines-spec =
     sub-execute
     part-execute-start
     part-execute-end
+    sub-execute-2
+    part-execute-start-2
+    part-execute-end-2
     execute-requires
-    put-requires
+    add-n
     add-i
     loop-less
     loop-again

@@ -1,13 +1,16 @@
 use native.Mathlib.Omega.{arith}
+use mathlib.Core.Path.{refl, sym, _∙_}
 use lib.Seq.{length-take-le}
-use mathlib.Core.Path.{sym, ap, _∙_}
-use mathlib.Core.List.{List}
-use Prim.Native.Nat.{ℕ}
-use Rattle.lines.specs.Line.{orMalformed, callOf}
-use Rattle.lines.proofs.LineLaws.{executed, told}
+use Rattle.ecc.specs.Columns.{columns}
+use Rattle.format.specs.Output.{malformedText}
+use Rattle.lines.specs.Line.{orMalformed}
+use Rattle.lines.proofs.LineLaws.{no-room, line-told, executed}
 use borrow.Author.Needs.{needs}
 use Rattle.lines.proofs.line.execute.Statement.{statement}
 use Rattle.lines.proofs.line.execute.Tie as tie
+
+returns : tie.Need-returns
+returns c = (no-room columns _ (c .before .before .before .before .args .line .now) (c .before .before .before .before .args .out .now) (omega arith), omega arith)
 
 parse-requires : tie.Need-parse-requires
 parse-requires c κs = search needs
@@ -34,10 +37,12 @@ enum-known-request-3 : tie.Need-enum-known-request-3
 enum-known-request-3 c = search needs
 
 array-share-prefix-bytes : tie.Need-array-share-prefix-bytes
-array-share-prefix-bytes c = c .before .before .before .before .before .parse .ensures .1
+array-share-prefix-bytes c = search needs
 
 slice-aggregate-write-line : tie.Need-slice-aggregate-write-line
-slice-aggregate-write-line c = sym (length-take-le (c .before .before .before .before .before .before .parse .result .count) (c .before .before .before .before .before .before .parse .result .bytes) (c .before .before .before .before .before .before .parse .ensures .1))
+slice-aggregate-write-line c =
+    let p = c .before .before .before .before .before .before .before .parse in
+    sym (length-take-le (p .result .count) (p .result .bytes) (p .ensures .1))
 
 write-line-requires : tie.Need-write-line-requires
 write-line-requires c κs = search needs
@@ -60,50 +65,97 @@ enum-known-request-6 c = search needs
 scrub-line-requires : tie.Need-scrub-line-requires
 scrub-line-requires c κs = search needs
 
-returns : tie.Need-returns
-unfolding orMalformed
-returns c = (told _ _ _ _ (c .malformed .ensures .0) ∙ sym (executed _ _ _ (c .before .before .before .parse .result) _ (c .before .before .before .parse .ensures .0) (c .before .enum-told .given .1)), c .malformed .ensures .1)
-
-returns-2 : tie.Need-returns-2
-unfolding orMalformed
-returns-2 c = (c .set-line .ensures .0 _ ∙ sym (executed _ _ _ (c .before .before .before .before .parse .result) _ (c .before .before .before .before .parse .ensures .0) (c .before .before .request .given .1)), c .set-line .ensures .1)
-
-returns-3 : tie.Need-returns-3
-unfolding orMalformed callOf
-returns-3 c = (told _ _ _ _ (c .get-line .ensures .0) ∙ sym (executed _ _ _ (c .before .before .before .before .parse .result) _ (c .before .before .before .before .parse .ensures .0) (c .before .before .request2 .given .1)), c .get-line .ensures .1)
-
 same-length : tie.Need-same-length
 same-length c = search needs
 
-returns-4 : tie.Need-returns-4
-unfolding orMalformed callOf
-returns-4 c = (c .before .before .write-line .ensures .0 ∙ sym (executed _ _ _ (c .before .before .before .before .before .before .before .before .before .parse .result) _ (c .before .before .before .before .before .before .before .before .before .parse .ensures .0) (c .before .before .before .before .before .before .before .request3 .given .1)), c .before .before .write-line .ensures .1)
+returns-2 : tie.Need-returns-2
+unfolding orMalformed
+returns-2 c =
+    let a = c .before .before .before .before .before .before .before .before .before .before .before .args in
+    let p = c .before .before .before .before .before .before .parse in
+    let m = c .before .before .malformed in (
+      line-told (m .result) (a .out .now) (m .last .0) malformedText (a .registers .now) (a .cells .now) _ (omega arith) (m .ensures .0) refl
+          ∙ executed columns _ (a .line .now) (a .out .now) (p .result) _ (omega arith) (p .ensures .0) (c .before .before .before .before .enum-told .given .1),
+      m .ensures .1,
+    )
 
 same-length-2 : tie.Need-same-length-2
 same-length-2 c = search needs
 
-returns-5 : tie.Need-returns-5
-unfolding orMalformed callOf
-returns-5 c = (c .read-line .ensures .0 ∙ sym (executed _ _ _ (c .before .before .before .before .before .parse .result) _ (c .before .before .before .before .before .parse .ensures .0) (c .before .before .before .request4 .given .1)), c .read-line .ensures .1)
+returns-3 : tie.Need-returns-3
+unfolding orMalformed
+returns-3 c =
+    let a = c .before .before .before .before .before .before .before .before .before .before .before .before .before .args in
+    let p = c .before .before .before .before .before .before .before .before .parse in
+    (c .before .before .set-line .ensures .0 _ ∙ executed columns _ (a .line .now) (a .out .now) (p .result) _ (omega arith) (p .ensures .0) (c .before .before .before .before .before .before .request .given .1), c .before .before .set-line .ensures .1)
 
 same-length-3 : tie.Need-same-length-3
 same-length-3 c = search needs
 
-returns-6 : tie.Need-returns-6
-unfolding orMalformed callOf
-returns-6 c = (c .before .before .flip-line .ensures .0 ∙ sym (executed _ _ _ (c .before .before .before .before .before .before .before .parse .result) _ (c .before .before .before .before .before .before .before .parse .ensures .0) (c .before .before .before .before .before .request5 .given .1)), c .before .before .flip-line .ensures .1)
+returns-4 : tie.Need-returns-4
+unfolding orMalformed
+returns-4 c =
+    let a = c .before .before .before .before .before .before .before .before .before .before .before .before .before .args in
+    let p = c .before .before .before .before .before .before .before .before .parse in
+    (c .before .before .get-line .ensures .0 _ ∙ executed columns _ (a .line .now) (a .out .now) (p .result) _ (omega arith) (p .ensures .0) (c .before .before .before .before .before .before .request2 .given .1), c .before .before .get-line .ensures .1)
 
 same-length-4 : tie.Need-same-length-4
 same-length-4 c = search needs
 
+same-length-5 : tie.Need-same-length-5
+same-length-5 c = search needs
+
+returns-5 : tie.Need-returns-5
+unfolding orMalformed
+returns-5 c =
+    let a = c .before .before .before .before .before .before .before .before .before .before .before .before .before .before .before .before .before .before .args in
+    let p = c .before .before .before .before .before .before .before .before .before .before .before .before .before .parse in
+    (c .before .before .before .before .write-line .ensures .0 ∙ executed columns _ (a .line .now) (a .out .now) (p .result) _ (omega arith) (p .ensures .0) (c .before .before .before .before .before .before .before .before .before .before .before .request3 .given .1), c .before .before .before .before .write-line .ensures .1)
+
+same-length-6 : tie.Need-same-length-6
+same-length-6 c = search needs
+
+same-length-7 : tie.Need-same-length-7
+same-length-7 c = search needs
+
+returns-6 : tie.Need-returns-6
+unfolding orMalformed
+returns-6 c =
+    let a = c .before .before .before .before .before .before .before .before .before .before .before .before .before .before .args in
+    let p = c .before .before .before .before .before .before .before .before .before .parse in
+    (c .before .before .read-line .ensures .0 ∙ executed columns _ (a .line .now) (a .out .now) (p .result) _ (omega arith) (p .ensures .0) (c .before .before .before .before .before .before .before .request4 .given .1), c .before .before .read-line .ensures .1)
+
+same-length-8 : tie.Need-same-length-8
+same-length-8 c = search needs
+
+same-length-9 : tie.Need-same-length-9
+same-length-9 c = search needs
+
 returns-7 : tie.Need-returns-7
-unfolding orMalformed callOf
-returns-7 c = (c .before .before .scrub-line .ensures .0 ∙ sym (executed _ _ _ (c .before .before .before .before .before .before .before .parse .result) _ (c .before .before .before .before .before .before .before .parse .ensures .0) (c .before .before .before .before .before .request6 .given .1)), c .before .before .scrub-line .ensures .1)
+unfolding orMalformed
+returns-7 c =
+    let a = c .before .before .before .before .before .before .before .before .before .before .before .before .before .before .before .before .args in
+    let p = c .before .before .before .before .before .before .before .before .before .before .before .parse in
+    (c .before .before .before .before .flip-line .ensures .0 ∙ executed columns _ (a .line .now) (a .out .now) (p .result) _ (omega arith) (p .ensures .0) (c .before .before .before .before .before .before .before .before .before .request5 .given .1), c .before .before .before .before .flip-line .ensures .1)
+
+same-length-10 : tie.Need-same-length-10
+same-length-10 c = search needs
+
+same-length-11 : tie.Need-same-length-11
+same-length-11 c = search needs
+
+returns-8 : tie.Need-returns-8
+unfolding orMalformed
+returns-8 c =
+    let a = c .before .before .before .before .before .before .before .before .before .before .before .before .before .before .before .before .args in
+    let p = c .before .before .before .before .before .before .before .before .before .before .before .parse in
+    (c .before .before .before .before .scrub-line .ensures .0 ∙ executed columns _ (a .line .now) (a .out .now) (p .result) _ (omega arith) (p .ensures .0) (c .before .before .before .before .before .before .before .before .before .request6 .given .1), c .before .before .before .before .scrub-line .ensures .1)
 
 pub execute-spec : {M : Type 1} → statement M
 execute-spec =
     tie.close
     (tie.spec
+    returns
     parse-requires
     enum-told
     malformed-requires
@@ -121,14 +173,21 @@ execute-spec =
     flip-line-requires
     enum-known-request-6
     scrub-line-requires
-    returns
-    returns-2
-    returns-3
     same-length
-    returns-4
+    returns-2
     same-length-2
-    returns-5
+    returns-3
     same-length-3
-    returns-6
+    returns-4
     same-length-4
-    returns-7)
+    same-length-5
+    returns-5
+    same-length-6
+    same-length-7
+    returns-6
+    same-length-8
+    same-length-9
+    returns-7
+    same-length-10
+    same-length-11
+    returns-8)

@@ -1,28 +1,46 @@
-use mathlib.Core.Path.{refl, sym, ap, _∙_}
-use mathlib.Core.List.{[]}
+use native.Mathlib.Omega.{arith}
 use Rattle.ecc.specs.Columns.{columns}
 use Rattle.memory.specs.Calls.{readCall}
-use Rattle.memory.specs.Access.{read}
-use Rattle.lines.proofs.LineLaws.{long-line}
+use Rattle.format.specs.Printed.{briefText}
+use Rattle.lines.proofs.LineLaws.{line-told, long-line}
 use borrow.Author.Needs.{needs}
 use Rattle.lines.proofs.line.read_long.Statement.{statement}
 use Rattle.lines.proofs.line.read_long.Tie as tie
 
-slice-aggregate-read : tie.Need-slice-aggregate-read
-slice-aggregate-read c = search needs
+slice-aggregate-answer-read : tie.Need-slice-aggregate-answer-read
+slice-aggregate-answer-read c = search needs
 
-read-requires : tie.Need-read-requires
-read-requires c κs = search needs
+answer-read-requires : tie.Need-answer-read-requires
+answer-read-requires c κs = search needs
+
+settle-requires : tie.Need-settle-requires
+settle-requires c κs = search needs
 
 brief-requires : tie.Need-brief-requires
 brief-requires c κs = search needs
 
+same-length : tie.Need-same-length
+same-length c = search needs
+
 returns : tie.Need-returns
 unfolding readCall
-returns c = (
-  long-line columns (c .before .before .before .before .before .before .args .registers) (c .before .before .before .before .before .before .args .cells .now) (c .before .before .before .before .before .before .args .address) (c .before .before .before .before .before .before .args .count) (c .before .before .before .read .result) _ _ _ (c .before .before .before .before .before .before .pre) (c .before .before .before .read .ensures) (c .brief .ensures .0),
-  c .brief .ensures .1,
-)
+returns c =
+    let a = c .before .before .before .before .before .before .before .before .before .before .before .before .args in
+    let p = c .before .before .brief in
+    let s = c .before .before .before .before .settle in
+    let m = c .before .before .before .before .before .before .before .answer-read in (
+      line-told (p .result) (a .out .now) (p .last .1 .1 .0) (briefText 0x72 (m .result)) (s .last .0) (a .cells .now) _ (omega arith) (p .ensures .0)
+          (long-line columns (a .registers .now) (a .cells .now) (a .address) (a .count) (m .result) (s .last .0) _ _ (omega arith) (m .ensures) (s .ensures)),
+      p .ensures .1,
+    )
 
 pub read-long-spec : {M : Type 1} → statement M
-read-long-spec = tie.close (tie.spec slice-aggregate-read read-requires brief-requires returns)
+read-long-spec =
+    tie.close
+    (tie.spec
+    slice-aggregate-answer-read
+    answer-read-requires
+    settle-requires
+    brief-requires
+    same-length
+    returns)

@@ -1,7 +1,7 @@
 use native.Mathlib.Omega.{arith}
 use borrow.Author.Tests.{lt-ltb, le-ltb}
-use Rattle.format.proofs.text.at_most_eight.Statement.{statement}
-use Rattle.format.proofs.text.at_most_eight.Tie as tie
+use Rattle.format.proofs.print.at_most_eight.Statement.{statement}
+use Rattle.format.proofs.print.at_most_eight.Tie as tie
 
 returns : tie.Need-returns
 returns c = (rw (lt-ltb _ _ (c .if1 .taken)), omega arith)
