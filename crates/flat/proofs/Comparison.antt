@@ -18,7 +18,7 @@ use Rattle.control.proofs.SwitchLaws.{setup-written, ready-written}
 use Rattle.ecc.specs.Columns.{columns, accepted}
 use Rattle.ecc.proofs.ColumnLaws.{columns-accepted}
 use Rattle.memory.specs.Access.{Access, read, write, flip, scrub, addressOf, parts, Got, Given, Call, memory, readRegister, writeRegister}
-use Rattle.memory.specs.Spans.{Spans, byCount, byBit, byArguments, bySpans, turnedAway}
+use Rattle.memory.specs.Spans.{Spans, byCount, byBit, byArguments, bySpans, byCall}
 use Rattle.memory.specs.Calls.{State, spansOf, unlentAt, unlent, refusal, access, accesses, settled, memoryCall, call, run}
 use Rattle.flat.specs.Flat.{Flat, blank, flatAccess, flatAccesses, flatSettled, flatCall, flatRun}
 use Rattle.flat.specs.Comparison.{SwitchedOn, AtErrorRegisters, All, ifAccepted, acceptedOf, FlatComparison}
@@ -55,8 +55,8 @@ allowed (flip a b) e = suc-le-suc (ltb-false 71 b (cause-fails (ltb 71 b) (8 ∷
 allowed (scrub a) e = tt
 
 -- the accesses of a call that is not turned away
-all-allowed : (spans : Spans) (x : Access) → turnedAway spans x ≡ none → All Allowed (parts x)
-unfolding turnedAway parts
+all-allowed : (spans : Spans) (x : Access) → byCall spans x ≡ none → All Allowed (parts x)
+unfolding byCall parts
 all-allowed spans x e = (allowed x (else-left (byArguments x) (bySpans spans x) e), tt)
 
 gentle-append : (spans : Spans) (f : Flat) (xs ys : List Access) → Gentle spans f (xs ++ ys)
@@ -92,9 +92,9 @@ module _ (cols : List ℕ) (good : accepted cols ≡ true) (s : Setup) (map : Ma
       one none e = refl
       one (some k) e = rw (is-lent cols good s map st f m (addressOf x) k e)
 
-  refusal-alike : (st : State) (f : Flat) → Step st f → (x : Access) → refusal st x ≡ turnedAway spans x
+  refusal-alike : (st : State) (f : Flat) → Step st f → (x : Access) → refusal st x ≡ byCall spans x
   unfolding refusal
-  refusal-alike st f m x = rw (all-lent st f m (parts x), m .unchanged, on) (else-none (turnedAway spans x))
+  refusal-alike st f m x = rw (all-lent st f m (parts x), m .unchanged, on) (else-none (byCall spans x))
 
   -- what the two give at a call, that they stay in step, and what is left of the premise
   record Same {A : Type 0} (p : A × State) (q : A × Flat) (ys : List Access) : Type 0 where
@@ -102,12 +102,12 @@ module _ (cols : List ℕ) (good : accepted cols ≡ true) (s : Setup) (map : Ma
     next : Step (p .1) (q .1)
     rest : Gentle spans (q .1) ys
 
-  settled-alike : (st : State) (f : Flat) → Step st f → (x : Access) (ys : List Access) → Gentle spans f (ifAccepted (turnedAway spans x) (parts x) ++ ys)
-      → Same (memoryCall cols st x) (flatSettled (turnedAway spans x) spans f (parts x)) ys
+  settled-alike : (st : State) (f : Flat) → Step st f → (x : Access) (ys : List Access) → Gentle spans f (ifAccepted (byCall spans x) (parts x) ++ ys)
+      → Same (memoryCall cols st x) (flatSettled (byCall spans x) spans f (parts x)) ys
   unfolding memoryCall settled flatSettled
-  settled-alike st f m x ys g = rw (refusal-alike st f m x) (go (turnedAway spans x) refl g)
+  settled-alike st f m x ys g = rw (refusal-alike st f m x) (go (byCall spans x) refl g)
     where
-      go : (d : Declined) → turnedAway spans x ≡ d → Gentle spans f (ifAccepted d (parts x) ++ ys)
+      go : (d : Declined) → byCall spans x ≡ d → Gentle spans f (ifAccepted d (parts x) ++ ys)
           → Same (settled cols d st (parts x)) (flatSettled d spans f (parts x)) ys
       go (some n) e h = record { answer = refl; next = m; rest = h }
       go none e h =
@@ -119,7 +119,7 @@ module _ (cols : List ℕ) (good : accepted cols ≡ true) (s : Setup) (map : Ma
       → Same (call cols st c) (flatCall spans f c) (acceptedAll spans cs)
   unfolding call flatCall acceptedAll acceptedOf
   call-alike st f m (memory x) cs p g =
-      let r : Same (memoryCall cols st x) (flatSettled (turnedAway spans x) spans f (parts x)) (acceptedAll spans cs) = settled-alike st f m x (acceptedAll spans cs) g in
+      let r : Same (memoryCall cols st x) (flatSettled (byCall spans x) spans f (parts x)) (acceptedAll spans cs) = settled-alike st f m x (acceptedAll spans cs) g in
       record { answer = ap some (r .answer); next = r .next; rest = r .rest }
   call-alike st f m (readRegister o) cs p g = record { answer = refl; next = m; rest = g }
   call-alike st f m (writeRegister o v) cs p g =

@@ -17,7 +17,7 @@ use Rattle.ecc.specs.Columns.{accepted}
 use Rattle.memory.specs.declared.Kind.{Kind}
 use Rattle.memory.specs.declared.Kind.the-variants.{Clean, Corrected, Uncorrectable, Stored, NoBank, Flipped}
 use Rattle.memory.specs.Access.{Access, read, write, flip, scrub, addressOf, parts, Got, Given, Call, memory, readRegister, writeRegister}
-use Rattle.memory.specs.Spans.{Spans, turnedAway, missed}
+use Rattle.memory.specs.Spans.{Spans, byCall, missed}
 use Rattle.memory.specs.Calls.{spansOf, run}
 use Rattle.flat.specs.Flat.{Flat, blank, byMark, flatHeld, flatAccess, flatAccesses, flatSettled, flatCall, flatRun}
 use Rattle.flat.specs.Comparison.{SwitchedOn, AtErrorRegisters, All, Spaced, FlatComparison}
@@ -70,7 +70,7 @@ unfolding flatRun flatCall flatSettled
 run-certain spans [] f = tt
 run-certain spans (readRegister o ∷ cs) f = (tt, run-certain spans cs f)
 run-certain spans (writeRegister o v ∷ cs) f = (tt, run-certain spans cs f)
-run-certain spans (memory x ∷ cs) f = (go (turnedAway spans x), run-certain spans cs (flatCall spans f (memory x) .1))
+run-certain spans (memory x ∷ cs) f = (go (byCall spans x), run-certain spans cs (flatCall spans f (memory x) .1))
   where
     go : (d : Declined) → Certain (some (flatSettled d spans f (parts x) .0))
     go none = accesses-certain spans (parts x) f
@@ -133,7 +133,7 @@ place-of spans (d ∷ cs) f (suc i) c e = place-of spans cs (flatCall spans f d 
 
 call-got : (spans : Spans) (f : Flat) (x : Access) (g : Got) → flatCall spans f (memory x) .0 ≡ some (given (g ∷ [])) → g ≡ flatAccess spans f x .0
 unfolding flatCall flatSettled flatAccesses parts
-call-got spans f x g e = go (turnedAway spans x) e
+call-got spans f x g e = go (byCall spans x) e
   where
     go : (d : Declined) → _≡_ {A = Option Given} (some (flatSettled d spans f (parts x) .0)) (some (given (g ∷ []))) → g ≡ flatAccess spans f x .0
     go none h = cc

@@ -13,7 +13,7 @@ use Rattle.ranges.proofs.Bools.{and-right, or-left, or-right}
 use Rattle.ranges.proofs.RangeLaws.{byCases, contra}
 use Rattle.refusals.specs.Paper.{Declined}
 use Rattle.memory.specs.Access.{Access, read, write, flip, scrub, addressOf, parts, Call, memory, readRegister, writeRegister}
-use Rattle.memory.specs.Spans.{Spans, turnedAway, missed}
+use Rattle.memory.specs.Spans.{Spans, byCall, missed}
 use Rattle.flat.specs.Flat.{Flat, marked, flatHeld, flatAccess, blank}
 use Rattle.flat.specs.Comparison.{ifAccepted, acceptedOf, flips, renews, anyOf, flippedAt, renewedAt, Spaced}
 use Rattle.flat.proofs.Doubleword.{Fresh}
@@ -87,9 +87,9 @@ module _ (spans : Spans) where
   apart [] s = tt
   apart (readRegister o ∷ cs) s = apart cs (spaced-tail (readRegister o) cs s)
   apart (writeRegister o v ∷ cs) s = apart cs (spaced-tail (writeRegister o v) cs s)
-  apart (memory x ∷ cs) s = go (turnedAway spans x) refl (apart cs (spaced-tail (memory x) cs s))
+  apart (memory x ∷ cs) s = go (byCall spans x) refl (apart cs (spaced-tail (memory x) cs s))
     where
-      go : (d : Declined) → turnedAway spans x ≡ d → Apart (acceptedAll spans cs) → Apart (ifAccepted d (parts x) ++ acceptedAll spans cs)
+      go : (d : Declined) → byCall spans x ≡ d → Apart (acceptedAll spans cs) → Apart (ifAccepted d (parts x) ++ acceptedAll spans cs)
       go (some n) e rest = rest
       go none e rest = (λ q t. waiting q cs (after-flip q (memory x) cs s (rw (e, t))), rest)
 

@@ -13,7 +13,7 @@ use Rattle.banks.specs.Setup.{setupOf}
 use Rattle.banks.specs.Map.{cellCount}
 use Rattle.control.specs.Calls.{declined, written}
 use Rattle.memory.specs.Access.{Access, read, write, flip, scrub, parts, Call, memory, readRegister, writeRegister}
-use Rattle.memory.specs.Spans.{Spans, turnedAway}
+use Rattle.memory.specs.Spans.{Spans, byCall}
 use Rattle.memory.specs.Calls.{spansOf, run}
 use Rattle.flat.specs.Flat.{flatRun, blank}
 
@@ -45,7 +45,7 @@ ifAccepted none xs = xs
 ifAccepted (some n) xs = []
 
 unfoldable pub acceptedOf : Spans → Call → List Access
-acceptedOf spans (memory x) = ifAccepted (turnedAway spans x) (parts x)
+acceptedOf spans (memory x) = ifAccepted (byCall spans x) (parts x)
 acceptedOf spans (readRegister o) = []
 acceptedOf spans (writeRegister o v) = []
 

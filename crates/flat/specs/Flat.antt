@@ -10,7 +10,7 @@ use Rattle.refusals.specs.Paper.{Declined, refused, given}
 use Rattle.memory.specs.declared.Kind.{Kind}
 use Rattle.memory.specs.declared.Kind.the-variants.{Clean, Corrected, Stored, Flipped}
 use Rattle.memory.specs.Access.{Access, read, write, flip, scrub, addressOf, parts, Got, got, Given, Call, memory, readRegister, writeRegister}
-use Rattle.memory.specs.Spans.{Spans, turnedAway, missed}
+use Rattle.memory.specs.Spans.{Spans, byCall, missed}
 
 -- "one byte for each address in them, and a mark for each doubleword": doubleword q has the addresses from 8 q on, and its mark is
 -- document 01's term. There a mark only stands or not; here it also remembers the flipped bit, for the proof, and no answer reads that. Outside
@@ -69,7 +69,7 @@ flatSettled none spans f xs = let r = flatAccesses spans f xs in (given (r .0), 
 
 -- "The error-register calls .. do nothing to it."
 unfoldable pub flatCall : Spans → Flat → Call → Option Given × Flat
-flatCall spans f (memory x) = let r = flatSettled (turnedAway spans x) spans f (parts x) in (some (r .0), r .1)
+flatCall spans f (memory x) = let r = flatSettled (byCall spans x) spans f (parts x) in (some (r .0), r .1)
 flatCall spans f (readRegister o) = (none, f)
 flatCall spans f (writeRegister o v) = (none, f)
 

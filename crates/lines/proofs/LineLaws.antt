@@ -19,7 +19,7 @@ use Rattle.control.specs.Calls.{readAt, writeAt, paperReading}
 use Rattle.memory.specs.declared.Answer.{Answer}
 use Rattle.memory.specs.declared.Answer.the-variants.{Refused, Done}
 use Rattle.memory.specs.Access.{Access, read, Given, Call, memory, readRegister, writeRegister}
-use Rattle.memory.specs.Spans.{turnedAway, byArguments, byCount}
+use Rattle.memory.specs.Spans.{byCall, byArguments, byCount}
 use Rattle.memory.specs.Calls.{State, refusal, memoryCall, Effect, paperAnswer, leaves, recorded, calledAt, effectOf, called}
 use Rattle.memory.proofs.CallLaws.{refusal-unready, refusal-ready, called-refused}
 use Rattle.format.specs.declared.request.Parsed.{Parsed}
@@ -48,7 +48,7 @@ module _ (r : Registers) (cells : List ℕ) (a : ℕ) where
   state = record { registers = r; cells = cells }
 
   long-refusal : (n : ℕ) → 8 < n → ready (setupOf r) ≡ true → refusal state (read a n) ≡ some (6 ∷ [])
-  unfolding turnedAway byArguments byCount
+  unfolding byCall byArguments byCount
   long-refusal n h t = refusal-ready r cells (read a n) t ∙ rw (ne-eqb n 0 (λ e. omega arith), lt-ltb 8 n h)
 
   pub long-read : (cols : List ℕ) (n : ℕ) (b : List ℕ) → 8 < n

@@ -22,7 +22,7 @@ use Rattle.ecc.specs.Cell.{loadOf}
 use Rattle.ecc.specs.Lending.{cellAt, putCell, isLent, lentReading, notLent, loadAt, changeTo}
 use Rattle.memory.specs.declared.Kind.the-variants.{NoBank}
 use Rattle.memory.specs.Access.{Access, addressOf}
-use Rattle.memory.specs.Spans.{byArguments, bySpans, turnedAway, missed}
+use Rattle.memory.specs.Spans.{byArguments, bySpans, byCall, missed}
 use Rattle.memory.specs.Errors.{reported}
 use Rattle.memory.specs.Calls.{spansOf, unlentAt, refusal, Effect, called}
 use Rattle.memory.specs.Aim.{early}
@@ -74,7 +74,7 @@ module _ (cells : List ℕ) (k : ℕ) (cell : List ℕ) (x : CellChange) (after 
 module _ (r : Registers) (cells : List ℕ) (x : Access) where
   -- an early refusal is the call's
   pub early-refused : (cols buffer n : List ℕ) → early (setupOf r) (byArguments x) ≡ some n → called cols r cells x buffer ≡ unchanged r cells buffer n
-  unfolding early turnedAway
+  unfolding early byCall
   early-refused cols buffer n h =
       called-refused r cells x cols buffer n
       (byCases (ready (setupOf r))
@@ -84,7 +84,7 @@ module _ (r : Registers) (cells : List ℕ) (x : Access) where
   module _ (e : early (setupOf r) (byArguments x) ≡ none) where
     -- what is left of the refusals after the early ones
     pub refusal-late : refusal (record { registers = r; cells = cells }) x ≡ (bySpans (spansOf (setupOf r)) x else unlentAt (cellOf (setupOf r) (addressOf x)) cells)
-    unfolding turnedAway
+    unfolding byCall
     refusal-late = let f = early-none (setupOf r) (byArguments x) e in refusal-ready r cells x (f .on) ∙ rw (f .none-yet)
 
     module _ (s : bySpans (spansOf (setupOf r)) x ≡ none) (cols buffer : List ℕ) where

@@ -13,7 +13,7 @@ use Rattle.banks.specs.Map.{cellOf}
 use Rattle.ecc.specs.Lending.{cellAt}
 use Rattle.memory.specs.declared.Kind.the-variants.{NoBank}
 use Rattle.memory.specs.Access.{Access, addressOf, parts}
-use Rattle.memory.specs.Spans.{turnedAway, missed}
+use Rattle.memory.specs.Spans.{byCall, missed}
 use Rattle.memory.specs.Errors.{reported}
 use Rattle.memory.specs.Cells.{onCell}
 use Rattle.memory.specs.Calls.{State, spansOf, unlentAt, unlent, refusal, putAt, accessAt, access, accesses, settled, memoryCall, Effect, called}
@@ -32,7 +32,7 @@ module _ (r : Registers) (cells : List ℕ) (x : Access) where
   refusal-unready h = rw h
 
   pub refusal-ready : ready (setupOf r) ≡ true
-      → refusal state x ≡ (turnedAway (spansOf (setupOf r)) x else unlentAt (cellOf (setupOf r) (addressOf x)) cells)
+      → refusal state x ≡ (byCall (spansOf (setupOf r)) x else unlentAt (cellOf (setupOf r) (addressOf x)) cells)
   unfolding refusal unlent parts
   refusal-ready h = rw (h, else-none (unlentAt (cellOf (setupOf r) (addressOf x)) cells))
 

@@ -19,7 +19,7 @@ use Rattle.memory.specs.declared.Answer.{Answer}
 use Rattle.memory.specs.declared.Answer.the-variants.{Refused, Done}
 use Rattle.memory.specs.declared.Called.{Called}
 use Rattle.memory.specs.Access.{Access, read, write, flip, scrub, addressOf, parts, Got, Given, Call, memory, readRegister, writeRegister}
-use Rattle.memory.specs.Spans.{Spans, turnedAway, missed}
+use Rattle.memory.specs.Spans.{Spans, byCall, missed}
 use Rattle.memory.specs.Errors.{reported}
 use Rattle.memory.specs.Cells.{onCell}
 
@@ -46,7 +46,7 @@ unlent st (x ∷ xs) = unlentAt (cellOf (setup st) (addressOf x)) (st .cells) el
 -- 5: "F2 bit 3 off, or the record would get 11 to 14". "Lower numbers go first, except that 10 comes before 9."
 unfoldable pub refusal : State → Access → Declined
 refusal st x =
-    refuse (not (ready (setup st))) (5 ∷ []) else turnedAway (spansOf (setup st)) x else unlent st (parts x)
+    refuse (not (ready (setup st))) (5 ∷ []) else byCall (spansOf (setup st)) x else unlent st (parts x)
 
 -- the cells with what an access stores in cell k, if it stores anything
 abbrev pub putAt : Option (List ℕ) → List ℕ → ℕ → List ℕ

@@ -35,8 +35,8 @@ bySpans spans (write a bs) = none
 bySpans spans (flip a b) = refuse (not (spans .holds a)) (10 ∷ [])
 bySpans spans (scrub a) = none
 
-unfoldable pub turnedAway : Spans → Access → Declined
-turnedAway spans x = byArguments x else bySpans spans x
+unfoldable pub byCall : Spans → Access → Declined
+byCall spans x = byArguments x else bySpans spans x
 
 -- "No bank selected: a read fills its buffer with FF; writes and scrubs change no cell." A flip is refused there
 unfoldable pub missed : Access → Got
