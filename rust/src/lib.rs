@@ -92,7 +92,8 @@ impl Registers {
         answer::byte(unsafe { ffi::mpc106_register_read(self.0.as_ptr(), offset) })
     }
 
-    /// Writes a register: refusals 1 to 4, and those of [`Registers::judge`] where the write switches memory on.
+    /// Writes a register: refusals 1 to 4, and those of [`Registers::judge`] where the write switches
+    /// memory on.
     pub fn write_register(&mut self, offset: u8, value: u8) -> Result<(), Refusal> {
         // SAFETY: the pointer is to 256 bytes that nothing else borrows.
         answer::nothing(unsafe { ffi::mpc106_register_write(self.0.as_mut_ptr(), offset, value) })
