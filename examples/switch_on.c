@@ -106,46 +106,69 @@ static void flip(uint32_t address, uint8_t bit)
     print_answer("flip", address, mpc106_flip(registers, cells, sizeof cells, address, bit));
 }
 
-int main(void)
+static void scrub(uint32_t address)
 {
-    static const uint8_t eight[8] = {0x80, 1, 2, 3, 4, 5, 6, 7};
-    static const uint8_t two[2] = {0xca, 0xfe};
+    print_answer("scrub", address, mpc106_scrub(registers, cells, sizeof cells, address));
+}
 
+static void switch_on(void)
+{
     mpc106_fresh(registers);
-    set_register(0x90, 1);    /* bank 0: last megabyte */
-    set_register(0x81, 2);    /* bank 1: start */
-    set_register(0x91, 1);    /* and an end below it */
-    set_register(0xf0, 0x04); /* row codes: bank 0 has 9 row bits, bank 1 10 */
-    set_register(0xa0, 0x03); /* both enabled */
-    set_register(0xf2, 8);    /* refused, for bank 1 */
-    set_register(0x91, 4);
-    set_register(0xf2, 8); /* memory on */
-    set_register(0xa0, 0x01);
-    set_register(0xc0, 0x20); /* report addresses without a bank */
+    set_register(MPC106_END, 1);               /* bank 0: last megabyte */
+    set_register(MPC106_START + 1, 2);         /* bank 1: start */
+    set_register(MPC106_END + 1, 1);           /* and an end below it */
+    set_register(MPC106_ROW_CODES, 0x04);      /* bank 0 has 9 row bits, bank 1 10 */
+    set_register(MPC106_BANK_ENABLE, 0x03);    /* both enabled */
+    set_register(MPC106_MEMORY, 8);            /* refused, for bank 1 */
+    set_register(MPC106_END + 1, 4);
+    set_register(MPC106_MEMORY, 8);            /* memory on */
+    set_register(MPC106_BANK_ENABLE, 0x01);    /* refused: memory is on */
+    set_register(MPC106_ERROR_ENABLE_1, 0x20); /* report addresses without a bank */
+}
 
+static void map_both_ways(void)
+{
     show_place(0x00001008);
     show_place(0x00200000);
     show_place(0x00400000);
     show_place(0x00500000);
     show_address(1, 512, 0);
     show_address(1, 256, 0);
+}
+
+static void turn_bits_over(void)
+{
+    static const uint8_t eight[8] = {0x80, 1, 2, 3, 4, 5, 6, 7};
+    static const uint8_t two[2] = {0xca, 0xfe};
 
     write_bytes(0x00001008, eight, sizeof eight);
     flip(0x00001008, 2);
     read_bytes(0x00001008, 8);
-    show_register(0xb8);
+    show_register(MPC106_SINGLE_BIT_COUNTER);
     write_bytes(0x0000100a, two, sizeof two);
     read_bytes(0x00001008, 8);
     flip(0x00001008, 0);
     flip(0x00001008, 71);
     read_bytes(0x00001008, 1);
     flip(0x00001008, 0);
-    print_answer("scrub", 0x00001008, mpc106_scrub(registers, cells, sizeof cells, 0x00001008));
+    scrub(0x00001008);
     read_bytes(0x0000100a, 2);
+}
+
+static void leave_the_banks(void)
+{
     read_bytes(0x00500000, 2);
-    show_register(0xc1);
-    show_register(0xca);
+    show_register(MPC106_ERROR_DETECTION_1);
+    show_register(MPC106_ERROR_ADDRESS + 2);
     read_bytes(0x00001007, 2);
     flip(0x00001008, 72);
+}
+
+int main(void)
+{
+    switch_on();
+    map_both_ways();
+    turn_bits_over();
+    leave_the_banks();
     return 0;
 }

@@ -3,15 +3,48 @@
  *
  * Link with libmpc106.a, which `rt staticlib mpc106` writes to target/staticlib/ (x86-64 Linux).
  * The library keeps nothing of its own and takes no memory: all state is in what the caller lends.
+ * So calls that are lent different records and cells may run in different threads.
  * No call fails on any input. What it cannot do it refuses, by a number.
  *
- *   record   256 bytes, one for each register offset. Start with mpc106_fresh.
+ *   record   256 bytes, one for each register offset. Start with mpc106_fresh. A record made by hand is
+ *            judged again at each call (refusal 5); of its extended bytes only bits 0 and 1 count.
  *   cells    the memory's own bytes, nine for each doubleword of 8 bytes: eight data bytes, then the
- *            check byte. Cell k starts at 9 * k; mpc106_map gives the cell of an address. Lend as many
- *            as the banks need; nine zero bytes are a valid cell that holds zeros. Length in bytes.
+ *            check byte. Cell k starts at 9 * k; mpc106_map gives the cell of an address. Nine zero
+ *            bytes are a valid cell that holds zeros. Length in bytes.
  *
  * Pointers must point at as many bytes or numbers as each call says, and what a call may change must
  * not overlap anything else that the call is lent. A pointer whose length is 0 must still not be null.
+ *
+ * REGISTERS
+ *   Offsets are hexadecimal; n is a bank, 0 to 7; bit 0 is the lowest. A megabyte is 2^20 bytes.
+ *
+ *   80+n     start of bank n in megabytes, low eight bits
+ *   88+n     the same, extended: bits 8 and 9, a value of 0 to 3
+ *   90+n     last megabyte of bank n, inclusive, low eight bits
+ *   98+n     the same, extended: bits 8 and 9, a value of 0 to 3
+ *   A0       bit n enables bank n
+ *   B8       single-bit counter: each MPC106_CORRECTED raises it by one, stopping at 255
+ *   B9       single-bit trigger
+ *   C0       error enables 1: bit 5 lets C1 bit 5 be set, and bit 2 C1 bit 2; its other bits do nothing
+ *   C1       error detection 1: bit 5, no bank held an address; bit 2, B8 rose and was then equal to B9.
+ *            Writing a 1 clears that bit
+ *   C4       error enables 2: bit 3 lets C5 bit 3 be set; its other bits do nothing
+ *   C5       error detection 2: bit 3, a doubleword was uncorrectable. Writing a 1 clears that bit
+ *   C8..CB   error address, lowest byte first, read only: the address of the last call that set a bit of
+ *            C1 or C5 while both were zero
+ *   F0, F1   row codes, two bits a bank: banks 0 to 3 from the low end of F0, 4 to 7 of F1. Codes
+ *            0, 1, 2, 3 mean 9, 10, 11, 12 row bits
+ *   F2       bit 3 switches memory on: write 8 for on, 0 for off, and no other value
+ *
+ *   80 to A0, F0 and F1 can be written only while memory is off. No other offset has a register.
+ *
+ * HOW MANY CELLS
+ *   An enabled bank with R row bits has 2^(R+C) cells, where C, its column bits, is the smallest of
+ *   8, 9, .., R with 2^(R+C+3) >= its length in bytes. The memory needs the sum of this over the enabled
+ *   banks, so lend 9 bytes times that sum; it is never above 2^27 cells. With fewer lent, reads, writes,
+ *   flips and scrubs of a higher cell get refusal 9. Bytes past the last whole cell are not looked at.
+ *   Say bank 0 has megabytes 0 to 1 with 9 row bits, and bank 1 megabytes 2 to 4 with 10: they have
+ *   2^(9+9) + 2^(10+9) = 786432 cells, and take 7077888 bytes.
  *
  * ANSWERS
  *   below MPC106_ACCEPTED   refused: the number of the refusal in the low byte (1 to 17), and in the
@@ -19,7 +52,8 @@
  *   from MPC106_ACCEPTED    accepted: what the call gives is answer - MPC106_ACCEPTED.
  *
  * A REFUSED CALL LEAVES EVERYTHING AS IT WAS: record, cells, buffer, place and address.
- * Where two refusals apply the lower number is given, except that 10 comes before 9.
+ * Where two refusals apply the lower number is given, except that 10 comes before 9, and that switching
+ * on gives 11; then 12 and 13 bank by bank upward; then 14 at the lowest such bank.
  */
 #ifndef MPC106_H
 #define MPC106_H
@@ -34,6 +68,22 @@ extern "C" {
 /* The bytes of a record, and those of a cell. */
 #define MPC106_RECORD_BYTES 256
 #define MPC106_CELL_BYTES 9
+
+/* The offsets of the registers; the table above says what each holds. */
+#define MPC106_START 0x80 /* of bank 0; bank n at n more, and so the next three */
+#define MPC106_START_EXTENDED 0x88
+#define MPC106_END 0x90
+#define MPC106_END_EXTENDED 0x98
+#define MPC106_BANK_ENABLE 0xa0
+#define MPC106_SINGLE_BIT_COUNTER 0xb8
+#define MPC106_SINGLE_BIT_TRIGGER 0xb9
+#define MPC106_ERROR_ENABLE_1 0xc0
+#define MPC106_ERROR_DETECTION_1 0xc1
+#define MPC106_ERROR_ENABLE_2 0xc4
+#define MPC106_ERROR_DETECTION_2 0xc5
+#define MPC106_ERROR_ADDRESS 0xc8 /* the lowest byte; three more follow */
+#define MPC106_ROW_CODES 0xf0     /* of banks 0 to 3; those of 4 to 7 are at the next offset */
+#define MPC106_MEMORY 0xf2
 
 /* What an answer says. */
 #define MPC106_ACCEPTED 0x10000u
@@ -77,7 +127,9 @@ void mpc106_fresh(uint8_t record[256]);
 /*
  * What switching the record on would get, whether or not memory is on. Changes nothing.
  * Accepted: gives 0.
- * Refused: 11; 12, 13 or 14 with the bank.
+ * Refused: 11; then 12 and 13 bank by bank upward; then 14 at the lowest such bank, each with the bank but
+ * 11. So a bank 0 that is too long gets 13 where bank 1 starts above its end, and 14 comes last of all.
+ * Banks that are off are not looked at.
  */
 uint32_t mpc106_judge(const uint8_t record[256]);
 
@@ -93,7 +145,7 @@ uint32_t mpc106_register_read(const uint8_t record[256], uint8_t offset);
  * Writing 8 to F2 while memory is off judges the banks and switches memory on; writing 0 there
  * switches it off.
  * Accepted: gives 0, and changes that one byte of the record.
- * Refused: 1, 2, 3, 4; and of switching on 11, or 12, 13 or 14 with the bank. The record is left as it was.
+ * Refused: 1, 2, 3, 4; and of switching on what mpc106_judge tells. The record is left as it was.
  */
 uint32_t mpc106_register_write(uint8_t record[256], uint8_t offset, uint8_t value);
 

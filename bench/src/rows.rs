@@ -67,8 +67,10 @@ pub fn print_all(calls: usize) {
     a.record.write_register(0xf2, 8).expect("switching on");
     b.record.write_register(0xf2, 8).expect("switching on");
     fill(&mut a, &mut b, &mut rng);
-    memory_rows(&mut a, &mut b, &mut rng, calls);
-    map_rows(&a.record, &b.record, &mut rng, calls);
+    let (x, y) = ([0; 8], [0; 8]);
+    let mut memory = Memory { a, b, x, y, calls };
+    memory_rows(&mut memory, &mut rng);
+    map_rows(&memory.a.record, &memory.b.record, &mut rng, calls);
 }
 
 fn switching_on(a: &mpc106::Registers, b: &model::Record, calls: usize) {
@@ -87,67 +89,72 @@ fn switching_on(a: &mpc106::Registers, b: &model::Record, calls: usize) {
     );
 }
 
-fn memory_rows(
-    a: &mut Side<mpc106::Registers>,
-    b: &mut Side<model::Record>,
-    rng: &mut Rng,
+/// Both sides, switched on, and the buffer of each: reads fill it, and writes store what it then holds.
+struct Memory {
+    a: Side<mpc106::Registers>,
+    b: Side<model::Record>,
+    x: [u8; 8],
+    y: [u8; 8],
     calls: usize,
-) {
+}
+
+fn memory_rows(memory: &mut Memory, rng: &mut Rng) {
     let (whole, any) = (addresses(rng, 0xfff8), addresses(rng, 0xffff));
-    let (mut x, mut y) = ([0; 8], [0; 8]);
-    for (name, inputs, n) in [("read of 8", &whole, 8), ("read of 1", &any, 1)] {
+    memory.read_row("read of 8", &whole, 8);
+    memory.read_row("read of 1", &any, 1);
+    memory.write_row("write of 8", &whole, 8);
+    memory.write_row("write of 1", &any, 1);
+    memory.scrub_row(&whole);
+    memory.flip_row(&any);
+}
+
+impl Memory {
+    fn read_row(&mut self, name: &str, inputs: &[u32], n: usize) {
+        let Memory { a, b, x, y, calls } = self;
+        let (x, y) = (&mut x[..n], &mut y[..n]);
         row(
             name,
             inputs,
-            calls,
-            |at| used(a.record.read(&a.cells, at, &mut x[..n])),
-            |at| {
-                used(model::memory::read(
-                    &mut b.record,
-                    &b.cells,
-                    at,
-                    &mut y[..n],
-                ))
-            },
+            *calls,
+            |at| used(a.record.read(&a.cells, at, x)),
+            |at| used(model::memory::read(&mut b.record, &b.cells, at, y)),
         );
     }
-    for (name, inputs, n) in [("write of 8", &whole, 8), ("write of 1", &any, 1)] {
+
+    fn write_row(&mut self, name: &str, inputs: &[u32], n: usize) {
+        let Memory { a, b, x, y, calls } = self;
+        let (x, y) = (&x[..n], &y[..n]);
         row(
             name,
             inputs,
-            calls,
-            |at| used(a.record.write(&mut a.cells, at, &x[..n])),
-            |at| {
-                used(model::memory::write(
-                    &mut b.record,
-                    &mut b.cells,
-                    at,
-                    &y[..n],
-                ))
-            },
+            *calls,
+            |at| used(a.record.write(&mut a.cells, at, x)),
+            |at| used(model::memory::write(&mut b.record, &mut b.cells, at, y)),
         );
     }
-    row(
-        "scrub",
-        &whole,
-        calls,
-        |at| used(a.record.scrub(&mut a.cells, at)),
-        |at| used(model::memory::scrub(&mut b.record, &mut b.cells, at)),
-    );
-    row(
-        "flip",
-        &any,
-        calls,
-        |at| used(a.record.flip(&mut a.cells, at, (at % 72) as u8)),
-        |at| {
-            used(model::memory::flip(
-                &b.record,
-                &mut b.cells,
-                at,
-                (at % 72) as u8,
-            ))
-        },
-    );
+
+    fn scrub_row(&mut self, inputs: &[u32]) {
+        let Memory { a, b, calls, .. } = self;
+        row(
+            "scrub",
+            inputs,
+            *calls,
+            |at| used(a.record.scrub(&mut a.cells, at)),
+            |at| used(model::memory::scrub(&mut b.record, &mut b.cells, at)),
+        );
+    }
+
+    fn flip_row(&mut self, inputs: &[u32]) {
+        let Memory { a, b, calls, .. } = self;
+        let bit = |at| (at % 72) as u8;
+        row(
+            "flip",
+            inputs,
+            *calls,
+            |at| used(a.record.flip(&mut a.cells, at, bit(at))),
+            |at| used(model::memory::flip(&b.record, &mut b.cells, at, bit(at))),
+        );
+    }
 }
 
 fn map_rows(a: &mpc106::Registers, b: &model::Record, rng: &mut Rng, calls: usize) {

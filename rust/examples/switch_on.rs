@@ -2,7 +2,7 @@
 //! writes, turns bits over, reads, and prints what it got: the same as `examples/switch_on.c`.
 //!
 //! Run `rt staticlib mpc106` in the root of the repository, then `cargo run --example switch_on` in `rust/`.
-use mpc106::{Column, Kind, Refusal, Registers, Row, CELL_BYTES};
+use mpc106::{offset, Column, Kind, Refusal, Registers, Row, CELL_BYTES};
 
 /// Bank 0 numbers 2^18 doublewords, and bank 1 2^19.
 const CELLS: usize = (1 << 18) + (1 << 19);
@@ -98,33 +98,33 @@ impl Machine {
     }
 }
 
-fn main() {
-    let mut machine = Machine {
-        registers: Registers::fresh(),
-        cells: vec![0; CELLS * CELL_BYTES],
-    };
-    machine.set_register(0x90, 1); // bank 0: last megabyte
-    machine.set_register(0x81, 2); // bank 1: start
-    machine.set_register(0x91, 1); // and an end below it
-    machine.set_register(0xf0, 0x04); // row codes: bank 0 has 9 row bits, bank 1 10
-    machine.set_register(0xa0, 0x03); // both enabled
-    machine.set_register(0xf2, 8); // refused, for bank 1
-    machine.set_register(0x91, 4);
-    machine.set_register(0xf2, 8); // memory on
-    machine.set_register(0xa0, 0x01);
-    machine.set_register(0xc0, 0x20); // report addresses without a bank
+fn switch_on(machine: &mut Machine) {
+    machine.set_register(offset::END, 1); // bank 0: last megabyte
+    machine.set_register(offset::START + 1, 2); // bank 1: start
+    machine.set_register(offset::END + 1, 1); // and an end below it
+    machine.set_register(offset::ROW_CODES, 0x04); // bank 0 has 9 row bits, bank 1 10
+    machine.set_register(offset::BANK_ENABLE, 0x03); // both enabled
+    machine.set_register(offset::MEMORY, 8); // refused, for bank 1
+    machine.set_register(offset::END + 1, 4);
+    machine.set_register(offset::MEMORY, 8); // memory on
+    machine.set_register(offset::BANK_ENABLE, 0x01); // refused: memory is on
+    machine.set_register(offset::ERROR_ENABLE_1, 0x20); // report addresses without a bank
+}
 
+fn map_both_ways(machine: &Machine) {
     machine.show_place(0x0000_1008);
     machine.show_place(0x0020_0000);
     machine.show_place(0x0040_0000);
     machine.show_place(0x0050_0000);
     machine.show_address(1, 512, 0);
     machine.show_address(1, 256, 0);
+}
 
+fn turn_bits_over(machine: &mut Machine) {
     machine.write(0x0000_1008, &[0x80, 1, 2, 3, 4, 5, 6, 7]);
     machine.flip(0x0000_1008, 2);
     machine.read::<8>(0x0000_1008);
-    machine.show_register(0xb8);
+    machine.show_register(offset::SINGLE_BIT_COUNTER);
     machine.write(0x0000_100a, &[0xca, 0xfe]);
     machine.read::<8>(0x0000_1008);
     machine.flip(0x0000_1008, 0);
@@ -133,9 +133,23 @@ fn main() {
     machine.flip(0x0000_1008, 0);
     machine.scrub(0x0000_1008);
     machine.read::<2>(0x0000_100a);
+}
+
+fn leave_the_banks(machine: &mut Machine) {
     machine.read::<2>(0x0050_0000);
-    machine.show_register(0xc1);
-    machine.show_register(0xca);
+    machine.show_register(offset::ERROR_DETECTION_1);
+    machine.show_register(offset::ERROR_ADDRESS + 2);
     machine.read::<2>(0x0000_1007);
     machine.flip(0x0000_1008, 72);
+}
+
+fn main() {
+    let mut machine = Machine {
+        registers: Registers::fresh(),
+        cells: vec![0; CELLS * CELL_BYTES],
+    };
+    switch_on(&mut machine);
+    map_both_ways(&machine);
+    turn_bits_over(&mut machine);
+    leave_the_banks(&mut machine);
 }

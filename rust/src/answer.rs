@@ -22,7 +22,8 @@ pub enum Kind {
     Flipped,
 }
 
-/// Why a call declined. It left everything as it was.
+/// Why a call declined. It left everything as it was. Where two apply the lower number is given, except that
+/// 10 comes before 9, and that switching on has the order that [`Registers::judge`](crate::Registers::judge) tells.
 #[derive(Clone, Copy, Debug, PartialEq, Eq, Hash)]
 pub enum Refusal {
     /// 1: the offset has no register.

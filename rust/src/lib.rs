@@ -5,14 +5,20 @@
 //! lent as a slice to each memory call. No call panics, whatever it is given; what it cannot do it
 //! refuses, and a refused call leaves everything as it was.
 //!
+//! An enabled bank with R row bits has 2^(R+C) cells, where C, its column bits, is the smallest of
+//! 8, 9, .., R with 2^(R+C+3) at least its length in bytes. The memory has the sum of this over the enabled
+//! banks, at most 2^27 cells. With fewer lent, memory calls to a higher cell get [`Refusal::NotLent`]; bytes
+//! past the last whole cell are not looked at. Nine zero bytes are a valid cell that holds zeros.
+//!
 //! ```
-//! use mpc106::{Kind, Registers};
+//! use mpc106::{offset, Kind, Registers};
 //!
 //! let mut registers = Registers::fresh();
-//! registers.write_register(0x90, 1)?; // bank 0 ends at megabyte 1
-//! registers.write_register(0xa0, 1)?; // and is enabled
-//! registers.write_register(0xf2, 8)?; // memory on
+//! registers.write_register(offset::END, 1)?; // bank 0 ends at megabyte 1
+//! registers.write_register(offset::BANK_ENABLE, 1)?; // and is enabled
+//! registers.write_register(offset::MEMORY, 8)?; // memory on
 //!
+//! // The bank has 2^18 cells; this program uses the first 16.
 //! let mut cells = vec![0; 16 * mpc106::CELL_BYTES];
 //! assert_eq!(registers.write(&mut cells, 0x10, &[1, 2, 3, 4, 5, 6, 7, 8])?, Kind::Stored);
 //! assert_eq!(registers.flip(&mut cells, 0x10, 2)?, Kind::Flipped);
@@ -25,6 +31,7 @@
 
 mod answer;
 mod ffi;
+pub mod offset;
 
 pub use answer::{Kind, Refusal};
 
@@ -72,7 +79,8 @@ impl Registers {
         registers
     }
 
-    /// What switching the record on would get: refusals 11 to 14.
+    /// What switching the record on would get: refusal 11; then 12 and 13 bank by bank upward; then 14 at
+    /// the lowest such bank.
     pub fn judge(&self) -> Result<(), Refusal> {
         // SAFETY: the pointer is to 256 bytes.
         answer::nothing(unsafe { ffi::mpc106_judge(self.0.as_ptr()) })
@@ -84,7 +92,8 @@ impl Registers {
         answer::byte(unsafe { ffi::mpc106_register_read(self.0.as_ptr(), offset) })
     }
 
-    /// Writes a register: refusals 1 to 4, and 11 to 14 where the write switches memory on.
+    /// Writes a register: refusals 1 to 4, and those of [`Registers::judge`] where the write switches
+    /// memory on.
     pub fn write_register(&mut self, offset: u8, value: u8) -> Result<(), Refusal> {
         // SAFETY: the pointer is to 256 bytes that nothing else borrows.
         answer::nothing(unsafe { ffi::mpc106_register_write(self.0.as_mut_ptr(), offset, value) })

@@ -156,6 +156,17 @@ fn switching_on_is_judged() {
 }
 
 #[test]
+fn switching_on_refuses_bank_by_bank() {
+    // Bank 0 is too long, bank 1 starts above its end, and banks 2 and 3 meet bank 0.
+    let mut registers = with(&[(0x90, 2), (0x81, 5), (0x91, 4), (0xa0, 0x0f)]);
+    assert_eq!(registers.judge(), Err(Refusal::TooLong(0)));
+    assert_eq!(registers.write_register(0x90, 1), Ok(()));
+    assert_eq!(registers.judge(), Err(Refusal::StartAboveEnd(1)));
+    assert_eq!(registers.write_register(0x91, 5), Ok(()));
+    assert_eq!(registers.judge(), Err(Refusal::Overlap(2)));
+}
+
+#[test]
 fn register_refusals() {
     let mut registers = two_banks();
     let before = registers;
@@ -189,55 +200,58 @@ fn a_one_clears_a_detection_bit() {
     assert_eq!(registers.read_register(0xc1), Ok(0x04));
 }
 
-#[test]
-fn memory_refusals_leave_everything() {
-    let mut registers = two_banks();
+/// Two banks with one cell lent, and of the next all but its last byte.
+fn partly_lent() -> (Registers, Vec<u8>) {
     let mut lent = cells(2);
     lent.pop();
-    let before = (registers, lent.clone());
+    (two_banks(), lent)
+}
+
+#[test]
+fn a_refused_read_leaves_everything() {
+    let (mut registers, lent) = partly_lent();
+    let before = registers;
     let mut buffer = [0xee; 9];
+    let mut refused = |address, count| registers.read(&lent, address, &mut buffer[..count]);
+    assert_eq!(refused(0, 0), Err(Refusal::CountOutOfRange));
+    assert_eq!(refused(0, 9), Err(Refusal::CountOutOfRange));
+    assert_eq!(refused(7, 2), Err(Refusal::CrossesDoubleword));
+    assert_eq!(refused(8, 2), Err(Refusal::NotLent));
+    assert_eq!(registers, before);
+    assert_eq!(buffer, [0xee; 9]);
+}
+
+#[test]
+fn a_refused_write_leaves_everything() {
+    let (mut registers, mut lent) = partly_lent();
+    let before = (registers, lent.clone());
+    let mut refused = |address, bytes: &[u8]| registers.write(&mut lent, address, bytes);
+    assert_eq!(refused(0, &[]), Err(Refusal::CountOutOfRange));
+    assert_eq!(refused(0, &[0; 9]), Err(Refusal::CountOutOfRange));
+    assert_eq!(refused(1, &[0; 8]), Err(Refusal::CrossesDoubleword));
     assert_eq!(
-        registers.read(&lent, 0, &mut []),
-        Err(Refusal::CountOutOfRange)
-    );
-    assert_eq!(
-        registers.read(&lent, 0, &mut buffer),
-        Err(Refusal::CountOutOfRange)
-    );
-    assert_eq!(
-        registers.read(&lent, 7, &mut buffer[..2]),
+        refused(0xffff_ffff, &[0; 2]),
         Err(Refusal::CrossesDoubleword)
     );
-    assert_eq!(
-        registers.read(&lent, 8, &mut buffer[..2]),
-        Err(Refusal::NotLent)
-    );
-    assert_eq!(
-        registers.write(&mut lent, 0, &[]),
-        Err(Refusal::CountOutOfRange)
-    );
-    assert_eq!(
-        registers.write(&mut lent, 1, &[0; 8]),
-        Err(Refusal::CrossesDoubleword)
-    );
-    assert_eq!(
-        registers.write(&mut lent, 0xffff_ffff, &[0; 2]),
-        Err(Refusal::CrossesDoubleword)
-    );
-    assert_eq!(registers.write(&mut lent, 8, &[1]), Err(Refusal::NotLent));
-    assert_eq!(
-        registers.flip(&mut lent, 0, 72),
-        Err(Refusal::BitOutOfRange)
-    );
-    assert_eq!(registers.flip(&mut lent, 8, 0), Err(Refusal::NotLent));
-    assert_eq!(
-        registers.flip(&mut lent, 0x0050_0000, 0),
-        Err(Refusal::FlipWithoutBank)
-    );
+    assert_eq!(refused(8, &[1]), Err(Refusal::NotLent));
+    assert_eq!((registers, lent), before);
+}
+
+#[test]
+fn a_refused_flip_or_scrub_leaves_everything() {
+    let (mut registers, mut lent) = partly_lent();
+    let before = (registers, lent.clone());
+    let mut refused = |address, bit| registers.flip(&mut lent, address, bit);
+    assert_eq!(refused(0, 72), Err(Refusal::BitOutOfRange));
+    assert_eq!(refused(8, 0), Err(Refusal::NotLent));
+    assert_eq!(refused(0x0050_0000, 0), Err(Refusal::FlipWithoutBank));
     assert_eq!(registers.scrub(&mut lent, 8), Err(Refusal::NotLent));
     assert_eq!(registers.scrub(&mut [], 0), Err(Refusal::NotLent));
     assert_eq!((registers, lent), before);
-    assert_eq!(buffer, [0xee; 9]);
+}
+
+#[test]
+fn switched_off_comes_first() {
     let mut off = Registers::fresh();
     assert_eq!(off.read(&[], 7, &mut []), Err(Refusal::NotReady));
     assert_eq!(off, Registers::fresh());

@@ -8,9 +8,9 @@ pub const FLIP_BITS: u8 = 72;
 
 /// The column of each flip bit.
 ///
-/// "Bits 0 to 55 have the numbers with exactly three ones, ascending; bits 56
-/// to 63 have 31, 47, 55, 59, 61, 62, 79, 87. Flip bit 64+j is check bit j,
-/// column 2^j."
+/// "bits 0 to 55 have the numbers with exactly three ones, ascending (7, 11,
+/// 13, 14, 19, ..); bits 56 to 63 have 31, 47, 55, 59, 61, 62, 79, 87. Flip
+/// bit 64+j is check bit j, column 2^j."
 pub const COLUMNS: [u8; FLIP_BITS as usize] = columns();
 
 const FIVE_ONES: [u8; 8] = [31, 47, 55, 59, 61, 62, 79, 87];

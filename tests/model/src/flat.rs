@@ -51,8 +51,8 @@ impl FlatMachine {
             .any(|span| span.start_mb <= megabyte && megabyte <= span.last_mb)
     }
 
-    /// Runs a list. Register calls give `None`: "the error-register calls do
-    /// nothing to it", and "what register calls give is left" out.
+    /// Runs a list. Register calls give `None`: the error-register calls "do
+    /// nothing to it", and "What register calls give is left to demand 2."
     pub fn run(&mut self, calls: &[Call]) -> Vec<Option<Outcome>> {
         calls.iter().map(|call| self.step(call)).collect()
     }

@@ -2,7 +2,7 @@
 //! alike.
 
 use model::gen::{setups, Rng};
-use model::map::{alike, alike_exhaustive, map, switched_on, way_back, Column, Place, Row};
+use model::map::{alike, alike_exhaustive, map, switched_on, way_back, Bank, Column, Place, Row};
 use model::record::Record;
 use model::Refusal;
 
@@ -72,6 +72,21 @@ fn there_and_back_and_there() {
     }
 }
 
+/// True if the way back leads to an address that has the place, or to refusal
+/// 17 in a bank that is not full: a full one has an address for every cell.
+fn goes_back_and_there(record: &Record, n: u8, bank: &Bank, row: Row, column: Column) -> bool {
+    match way_back(record, n, row, column) {
+        Ok(address) => {
+            let there = map(record, address).unwrap().unwrap();
+            (there.bank, there.row, there.column) == (n, row, column)
+        }
+        Err(refusal) => {
+            let length = bank.last_mb - bank.start_mb + 1;
+            refusal == Refusal::NoAddress && length << 17 < bank.cells()
+        }
+    }
+}
+
 #[test]
 fn back_and_there_or_no_address() {
     for seed in 0..400 {
@@ -81,18 +96,10 @@ fn back_and_there_or_no_address() {
             for _ in 0..50 {
                 let row = Row(rng.below(1 << bank.row_bits));
                 let column = Column(rng.below(1 << bank.column_bits));
-                match way_back(&record, n, row, column) {
-                    Ok(address) => {
-                        let there = map(&record, address).unwrap().unwrap();
-                        assert_eq!((there.bank, there.row, there.column), (n, row, column));
-                    }
-                    Err(refusal) => {
-                        assert_eq!(refusal, Refusal::NoAddress, "seed {seed}");
-                        // A full bank has an address for every cell.
-                        let length = bank.last_mb - bank.start_mb + 1;
-                        assert!(length << 17 < bank.cells(), "seed {seed}");
-                    }
-                }
+                assert!(
+                    goes_back_and_there(&record, n, bank, row, column),
+                    "seed {seed}, bank {n}, {row:?}, {column:?}"
+                );
             }
         }
     }

@@ -286,12 +286,12 @@ fn short_write_into_a_corrected_cell() -> Result<(), String> {
     sides.flip(3, 7, FLIPPED)?;
     sides.write(1, &[0xAA], CORRECTED)?;
     sides.read(0, CLEAN, &[0, 0xAA, 0, 0, 0, 0, 0, 0])?;
-    // "On uncorrectable, which is then the answer, the cell stays."
+    // "on uncorrectable, which is then the answer, the cell stays"
     sides.flip(0, 0, FLIPPED)?;
     sides.flip(0, 1, FLIPPED)?;
     sides.write(2, &[0xBB], UNCORRECTABLE)?;
     sides.read(0, UNCORRECTABLE, &[0xC0, 0xAA, 0, 0, 0, 0, 0, 0])?;
-    // "Write of 8 looks at nothing old."
+    // "Write of 8: stores data and check, looks at nothing old"
     sides.write(0, &[1; 8], STORED)?;
     sides.read(0, CLEAN, &[1; 8])
 }
