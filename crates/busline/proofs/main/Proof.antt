@@ -9,10 +9,10 @@ slice-aggregate-run : tie.Need-slice-aggregate-run
 slice-aggregate-run c = sym (length-replicate {A = ℕ} 65520 0)
 
 slice-aggregate-run-2 : tie.Need-slice-aggregate-run-2
-slice-aggregate-run-2 c = sym (length-replicate {A = ℕ} 65536 0)
+slice-aggregate-run-2 c = sym (length-replicate {A = ℕ} 16384 0)
 
 slice-aggregate-run-3 : tie.Need-slice-aggregate-run-3
-slice-aggregate-run-3 c = sym (length-replicate {A = ℕ} 1572864 0)
+slice-aggregate-run-3 c = sym (length-replicate {A = ℕ} 393216 0)
 
 run-requires : tie.Need-run-requires
 run-requires c κs = tt
