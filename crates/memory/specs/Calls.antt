@@ -43,7 +43,7 @@ unfoldable pub unlent : State → List Access → Declined
 unlent st [] = none
 unlent st (x ∷ xs) = unlentAt (cellOf (setup st) (addressOf x)) (st .cells) else unlent st xs
 
--- 5: "F2 bit 3 off, or the record would get 11 to 14". "Lower numbers go first, except that 10 comes before 9."
+-- 5: "F2 bit 3 off, or the record .. would get 11 to 14". "Lower numbers go first, except that 10 comes before 9."
 unfoldable pub refusal : State → Access → Declined
 refusal st x =
     refuse (not (ready (setup st))) (5 ∷ []) else byCall (spansOf (setup st)) x else unlent st (parts x)
