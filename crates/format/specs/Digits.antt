@@ -2,7 +2,7 @@
 -- Assumes nothing.
 use Prim.Native.Nat.{ℕ, _+_, _*_, _-_, _/_, _%_}
 use mathlib.Core.Bool.{cond, _&&_}
-use mathlib.Core.List.{List, [], _∷_}
+use mathlib.Core.List.{List, [], _∷_, _++_}
 use mathlib.Core.Option.{Option, none, some}
 use lib.Dec.{ltb, leb, eqb}
 use lib.ListN.{length}
@@ -61,7 +61,7 @@ hexPair b = hexCharacter (b / 16) ∷ hexCharacter (b % 16) ∷ []
 
 abbrev pub hexPairs : List ℕ → List ℕ
 hexPairs [] = []
-hexPairs (b ∷ bs) = hexCharacter (b / 16) ∷ hexCharacter (b % 16) ∷ hexPairs bs
+hexPairs (b ∷ bs) = hexPair b ++ hexPairs bs
 
 -- a number below 100
 unfoldable pub decimal : ℕ → List ℕ

@@ -27,10 +27,14 @@ unfoldable pub writtenText : Declined → List ℕ
 writtenText none = acceptedText 0x63 []
 writtenText (some n) = refusedText 0x63 (getD n 0 0)
 
+-- of a call that gives something, by what an accepted one has to tell
+abbrev pub outcomeText : {A : Type 0} → ℕ → (A → List ℕ) → Outcome A → List ℕ
+outcomeText l tell (refused n) = refusedText l (getD n 0 0)
+outcomeText l tell (given a) = acceptedText l (tell a)
+
 -- of a register read: "g's value"
 unfoldable pub readingText : Outcome ℕ → List ℕ
-readingText (refused n) = refusedText 0x67 (getD n 0 0)
-readingText (given v) = acceptedText 0x67 (0x2C ∷ hexPair v)
+readingText o = outcomeText 0x67 (λ v. 0x2C ∷ hexPair v) o
 
 -- "n clean, c corrected, u uncorrectable, e no bank, p stored"; of a flip nothing is printed
 unfoldable pub kindLetter : Kind → ℕ
@@ -47,14 +51,19 @@ letterOf (write a bs) = 0x77
 letterOf (flip a b) = 0x66
 letterOf (scrub a) = 0x73
 
--- "the answer .. and r's bytes": of the kinds of a call's accesses, and the bytes that a read gives
+-- "the answer .. and r's bytes": of the kinds of a call's accesses; of these and the bytes that a read gives
+abbrev pub kindsText : List Kind → List ℕ
+kindsText ks = 0x2C ∷ map kindLetter ks
+
+abbrev pub bytesText : List ℕ → List Kind → List ℕ
+bytesText bs ks = kindsText ks ++ 0x2C ∷ hexPairs bs
+
 unfoldable pub answerText : Access → List Kind → List ℕ → List ℕ
-answerText (read a n) ks bs = 0x2C ∷ map kindLetter ks ++ 0x2C ∷ hexPairs bs
-answerText (write a ws) ks bs = 0x2C ∷ map kindLetter ks
+answerText (read a n) ks bs = bytesText bs ks
+answerText (write a ws) ks bs = kindsText ks
 answerText (flip a b) ks bs = []
-answerText (scrub a) ks bs = 0x2C ∷ map kindLetter ks
+answerText (scrub a) ks bs = kindsText ks
 
 -- of a memory call
 unfoldable pub accessText : Access → Outcome (List Kind) → List ℕ → List ℕ
-accessText x (refused n) bs = refusedText (letterOf x) (getD n 0 0)
-accessText x (given ks) bs = acceptedText (letterOf x) (answerText x ks bs)
+accessText x o bs = outcomeText (letterOf x) (λ ks. answerText x ks bs) o

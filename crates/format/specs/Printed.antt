@@ -2,14 +2,12 @@
 -- Assumes nothing.
 use Prim.Native.Nat.{ℕ}
 use mathlib.Core.Bool.{cond}
-use mathlib.Core.List.{List, [], _∷_, _++_}
+use mathlib.Core.List.{List, [], _++_}
 use lib.Dec.{leb}
-use lib.ListN.{length, drop, getD}
-use Rattle.refusals.specs.Paper.{paper}
+use lib.ListN.{length, drop}
 use Rattle.memory.specs.declared.Answer.{Answer}
-use Rattle.memory.specs.declared.Answer.the-variants.{Refused, Done}
-use Rattle.format.specs.Digits.{hexPairs}
-use Rattle.format.specs.Output.{refusedText, acceptedText, kindLetter}
+use Rattle.memory.specs.Calls.{paperAnswer}
+use Rattle.format.specs.Output.{outcomeText, kindsText, bytesText}
 
 -- the length of a text, and the output with the text at its start: what is behind it stays
 abbrev pub laid : List ℕ → List ℕ → ℕ × List ℕ
@@ -19,15 +17,12 @@ laid text out = (length text, text ++ drop (length text) out)
 unfoldable pub put : List ℕ → List ℕ → ℕ × List ℕ
 put text out = cond (leb 24 (length out)) (laid text out) (0, out)
 
--- the answers of the memory calls: of a write or a scrub, of a flip, of a read
+-- the answers of the memory calls, by the letter: of a write or a scrub, of a flip, of a read
 abbrev pub briefText : ℕ → Answer → List ℕ
-briefText l (Refused x) = refusedText l (getD (paper x) 0 0)
-briefText l (Done k) = acceptedText l (0x2C ∷ kindLetter k ∷ [])
+briefText l x = outcomeText l kindsText (paperAnswer x)
 
 abbrev pub flippedText : Answer → List ℕ
-flippedText (Refused x) = refusedText 0x66 (getD (paper x) 0 0)
-flippedText (Done k) = acceptedText 0x66 []
+flippedText x = outcomeText 0x66 (λ ks. []) (paperAnswer x)
 
 abbrev pub dataText : Answer → List ℕ → List ℕ
-dataText (Refused x) bs = refusedText 0x72 (getD (paper x) 0 0)
-dataText (Done k) bs = acceptedText 0x72 (0x2C ∷ kindLetter k ∷ 0x2C ∷ hexPairs bs)
+dataText x bs = outcomeText 0x72 (bytesText bs) (paperAnswer x)

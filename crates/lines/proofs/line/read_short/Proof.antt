@@ -45,8 +45,8 @@ returns c =
     let m = c .before .before .before .before .before .before .before .answer-read in
     let n : length (take (a .count) zeros) ≡ a .count = length-take-le (a .count) zeros (omega arith) in (
       line-told (p .result) (a .out .now) (p .last .1 .1 .1 .0) _ (s .last .0) (a .cells .now) _ (omega arith) (p .ensures .0)
-          (memory-line columns (read (a .address) (a .count)) (a .registers .now) (a .cells .now) (a .address) (m .result) (s .last .0) (a .cells .now) _ (take (a .count) zeros) _ (rw n at (m .ensures)) (s .ensures)
-          (read-text (a .address) (a .count) _ (m .result) ∙ ap (dataText (m .result)) (sym (take-at _ _ (a .count) (c .before .before .before .before .before .before .buffer2 .given ∙ n))))),
+          (memory-line columns (read (a .address) (a .count)) (a .registers .now) (a .cells .now) (a .address) (m .result) (s .last .0) (a .cells .now) (m .last .1 .1 .1 .0) (take (a .count) zeros) _ (rw n at (m .ensures)) (s .ensures)
+          (read-text (a .address) (a .count) (m .last .1 .1 .1 .0) (m .result) ∙ ap (dataText (m .result)) (sym (take-at (m .last .1 .1 .1 .0) _ (a .count) (c .before .before .before .before .before .before .buffer2 .given ∙ n))))),
       p .ensures .1,
     )
 
