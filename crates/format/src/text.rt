@@ -8,7 +8,7 @@ ghost use Rattle.format.specs.Output.{refusedText, acceptedText, kindLet
 ghost use Rattle.format.specs.Printed.{laid};
 use crate::digits::high_digit;
 use crate::digits::low_digit;
-use memory::Kind;
+use errors::Kind;
 
 pub(crate) fn refused(letter: u8, number: u8, out: &mut [u8]) -> usize
     requires { ⌜ 24 ≤ length (now out) ⌝ }

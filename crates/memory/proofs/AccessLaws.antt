@@ -13,17 +13,16 @@ use Rattle.banks.specs.Judge.{ready}
 use Rattle.banks.specs.Map.{cellOf}
 use Rattle.banks.proofs.CommonLaws.{never}
 use Rattle.ecc.specs.declared.Reading.{Reading}
-use Rattle.ecc.specs.declared.Reading.the-variants as reading
 use Rattle.ecc.specs.declared.LoadedCell.{LoadedCell}
 use Rattle.ecc.specs.declared.CellReading.the-variants as cell
 use Rattle.ecc.specs.declared.CellChange.{CellChange}
 use Rattle.ecc.specs.declared.CellChange.the-variants as change
 use Rattle.ecc.specs.Cell.{loadOf}
 use Rattle.ecc.specs.Lending.{cellAt, putCell, isLent, lentReading, notLent, loadAt, changeTo}
-use Rattle.memory.specs.declared.Kind.the-variants.{NoBank}
+use Rattle.errors.specs.declared.Kind.the-variants.{NoBank}
 use Rattle.memory.specs.Access.{Access, addressOf}
 use Rattle.memory.specs.Spans.{byArguments, bySpans, byCall, missed}
-use Rattle.memory.specs.Errors.{reported}
+use Rattle.errors.specs.Errors.{reported}
 use Rattle.memory.specs.Calls.{spansOf, unlentAt, refusal, Effect, called}
 use Rattle.memory.specs.Aim.{early}
 use Rattle.memory.proofs.CallLaws.{refusal-unready, refusal-ready, called-refused, called-missed, doneAt, called-at}

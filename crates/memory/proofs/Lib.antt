@@ -1,4 +1,3 @@
-pub mod ErrorLaws
 pub mod Examples
 pub mod CallLaws
 pub mod AimLaws

@@ -1,6 +1,5 @@
 pub mod Access
 pub mod Spans
-pub mod Errors
 pub mod Cells
 pub mod Calls
 pub mod Aim

@@ -14,13 +14,13 @@ ghost use Rattle.memory.specs.Cells.{answerOf};
 ghost use Rattle.memory.specs.Aim.{isRight, isCorrected, AtCell};
 ghost use Rattle.memory.specs.Calls.{readCall, writeCall, flipCall, scrubCall};
 use crate::Answer;
-use crate::Kind;
 use crate::bytes::copy_out;
 use crate::bytes::merged;
 use ecc::CellChange;
 use ecc::CellReading;
 use ecc::Reading;
 use ecc::columns::COLUMNS;
+use errors::Kind;
 use refusals::Refusal;
 
 fn kind_of(reading: Reading) -> Kind

@@ -8,25 +8,14 @@ mod access;
 mod aim;
 mod bytes;
 mod cell;
-mod errors;
 
 pub use access::answer_flip;
 pub use access::answer_read;
 pub use access::answer_scrub;
 pub use access::answer_write;
+use errors::Kind;
 use refusals::Refusal;
 use registers::Registers;
-
-// What an accepted access answers: document 01's "clean", "corrected", "uncorrectable", "stored" and "no bank". A flip answers
-// only that it was accepted, which is a kind here, so that the four calls share one answer.
-pub enum Kind {
-    Clean,
-    Corrected,
-    Uncorrectable,
-    Stored,
-    NoBank,
-    Flipped,
-}
 
 pub enum Answer {
     Refused(Refusal),
@@ -46,7 +35,7 @@ pub fn settle(registers: &mut [u8; 256], answer: Answer, address: u32)
 {
     match answer {
         Answer::Refused(_) => {}
-        Answer::Done(kind) => errors::report_in(registers, kind, address),
+        Answer::Done(kind) => errors::report(registers, kind, address),
     }
 }
 

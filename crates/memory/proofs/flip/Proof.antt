@@ -1,10 +1,6 @@
 use borrow.Author.Needs.{needs}
 use Rattle.memory.proofs.flip.Statement.{statement}
 use Rattle.memory.proofs.flip.Tie as tie
-use Rattle.memory.proofs.flip.Reads as reads
-use Rattle.memory.proofs.flip.Lts as lts
-use Rattle.memory.proofs.access.answer_flip.Reads as answer-flip-reads
-use Rattle.memory.proofs.returned.Reads as returned-reads
 
 answer-flip-requires : tie.Need-answer-flip-requires
 answer-flip-requires c κs = search needs

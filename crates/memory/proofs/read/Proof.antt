@@ -1,10 +1,6 @@
 use borrow.Author.Needs.{needs}
 use Rattle.memory.proofs.read.Statement.{statement}
 use Rattle.memory.proofs.read.Tie as tie
-use Rattle.memory.proofs.read.Reads as reads
-use Rattle.memory.proofs.read.Lts as lts
-use Rattle.memory.proofs.access.answer_read.Reads as answer-read-reads
-use Rattle.memory.proofs.returned.Reads as returned-reads
 
 answer-read-requires : tie.Need-answer-read-requires
 answer-read-requires c κs = search needs

@@ -1,9 +1,6 @@
 use borrow.Author.Needs.{needs}
 use Rattle.memory.proofs.returned.Statement.{statement}
 use Rattle.memory.proofs.returned.Tie as tie
-use Rattle.memory.proofs.returned.Reads as reads
-use Rattle.memory.proofs.returned.Lts as lts
-use Rattle.memory.proofs.settle.Reads as settle-reads
 
 settle-requires : tie.Need-settle-requires
 settle-requires c κs = search needs

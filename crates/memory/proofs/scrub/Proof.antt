@@ -1,10 +1,6 @@
 use borrow.Author.Needs.{needs}
 use Rattle.memory.proofs.scrub.Statement.{statement}
 use Rattle.memory.proofs.scrub.Tie as tie
-use Rattle.memory.proofs.scrub.Reads as reads
-use Rattle.memory.proofs.scrub.Lts as lts
-use Rattle.memory.proofs.access.answer_scrub.Reads as answer-scrub-reads
-use Rattle.memory.proofs.returned.Reads as returned-reads
 
 answer-scrub-requires : tie.Need-answer-scrub-requires
 answer-scrub-requires c κs = search needs

@@ -1,10 +1,6 @@
 use borrow.Author.Needs.{needs}
 use Rattle.memory.proofs.write.Statement.{statement}
 use Rattle.memory.proofs.write.Tie as tie
-use Rattle.memory.proofs.write.Reads as reads
-use Rattle.memory.proofs.write.Lts as lts
-use Rattle.memory.proofs.access.answer_write.Reads as answer-write-reads
-use Rattle.memory.proofs.returned.Reads as returned-reads
 
 answer-write-requires : tie.Need-answer-write-requires
 answer-write-requires c κs = search needs

@@ -2,11 +2,6 @@ use Rattle.mpc106.proofs.MemoryLaws.{left-of}
 use borrow.Author.Needs.{needs}
 use Rattle.mpc106.proofs.mpc106_flip.Statement.{statement}
 use Rattle.mpc106.proofs.mpc106_flip.Tie as tie
-use Rattle.mpc106.proofs.mpc106_flip.Reads as reads
-use Rattle.mpc106.proofs.mpc106_flip.Lts as lts
-use Rattle.memory.proofs.answer_flip.Reads as answer-flip-reads
-use Rattle.memory.proofs.settle.Reads as settle-reads
-use Rattle.mpc106.proofs.answers.of_answer.Reads as of-answer-reads
 
 answer-flip-requires : tie.Need-answer-flip-requires
 answer-flip-requires c κs = search needs

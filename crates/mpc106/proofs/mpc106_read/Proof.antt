@@ -2,11 +2,6 @@ use Rattle.mpc106.proofs.MemoryLaws.{left-of}
 use borrow.Author.Needs.{needs}
 use Rattle.mpc106.proofs.mpc106_read.Statement.{statement}
 use Rattle.mpc106.proofs.mpc106_read.Tie as tie
-use Rattle.mpc106.proofs.mpc106_read.Reads as reads
-use Rattle.mpc106.proofs.mpc106_read.Lts as lts
-use Rattle.memory.proofs.answer_read.Reads as answer-read-reads
-use Rattle.memory.proofs.settle.Reads as settle-reads
-use Rattle.mpc106.proofs.answers.of_answer.Reads as of-answer-reads
 
 answer-read-requires : tie.Need-answer-read-requires
 answer-read-requires c κs = search needs

@@ -2,11 +2,6 @@ use Rattle.mpc106.proofs.MemoryLaws.{left-of}
 use borrow.Author.Needs.{needs}
 use Rattle.mpc106.proofs.mpc106_scrub.Statement.{statement}
 use Rattle.mpc106.proofs.mpc106_scrub.Tie as tie
-use Rattle.mpc106.proofs.mpc106_scrub.Reads as reads
-use Rattle.mpc106.proofs.mpc106_scrub.Lts as lts
-use Rattle.memory.proofs.answer_scrub.Reads as answer-scrub-reads
-use Rattle.memory.proofs.settle.Reads as settle-reads
-use Rattle.mpc106.proofs.answers.of_answer.Reads as of-answer-reads
 
 answer-scrub-requires : tie.Need-answer-scrub-requires
 answer-scrub-requires c κs = search needs

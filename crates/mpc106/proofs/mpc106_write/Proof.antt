@@ -2,11 +2,6 @@ use Rattle.mpc106.proofs.MemoryLaws.{left-of}
 use borrow.Author.Needs.{needs}
 use Rattle.mpc106.proofs.mpc106_write.Statement.{statement}
 use Rattle.mpc106.proofs.mpc106_write.Tie as tie
-use Rattle.mpc106.proofs.mpc106_write.Reads as reads
-use Rattle.mpc106.proofs.mpc106_write.Lts as lts
-use Rattle.memory.proofs.answer_write.Reads as answer-write-reads
-use Rattle.memory.proofs.settle.Reads as settle-reads
-use Rattle.mpc106.proofs.answers.of_answer.Reads as of-answer-reads
 
 answer-write-requires : tie.Need-answer-write-requires
 answer-write-requires c κs = search needs

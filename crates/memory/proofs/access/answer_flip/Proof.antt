@@ -6,11 +6,6 @@ use Rattle.memory.proofs.CellCalls.{flip-refused, flip-missed}
 use borrow.Author.Needs.{needs}
 use Rattle.memory.proofs.access.answer_flip.Statement.{statement}
 use Rattle.memory.proofs.access.answer_flip.Tie as tie
-use Rattle.memory.proofs.access.answer_flip.Reads as reads
-use Rattle.memory.proofs.access.answer_flip.Lts as lts
-use Rattle.memory.proofs.aim.aim.Reads as aim-reads
-use Rattle.memory.proofs.aim.judge_bit.Reads as judge-bit-reads
-use Rattle.memory.proofs.cell.flip_cell.Reads as flip-cell-reads
 
 judge-bit-requires : tie.Need-judge-bit-requires
 judge-bit-requires c κs = search needs

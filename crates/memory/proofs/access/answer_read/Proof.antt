@@ -8,12 +8,6 @@ use Rattle.memory.proofs.CellCalls.{take-same, read-refused, read-misse
 use borrow.Author.Needs.{needs}
 use Rattle.memory.proofs.access.answer_read.Statement.{statement}
 use Rattle.memory.proofs.access.answer_read.Tie as tie
-use Rattle.memory.proofs.access.answer_read.Reads as reads
-use Rattle.memory.proofs.access.answer_read.Lts as lts
-use Rattle.memory.proofs.aim.aim.Reads as aim-reads
-use Rattle.memory.proofs.aim.judge_count.Reads as judge-count-reads
-use Rattle.memory.proofs.bytes.copy_out.Reads as copy-out-reads
-use Rattle.memory.proofs.cell.read_cell.Reads as read-cell-reads
 
 judge-count-requires : tie.Need-judge-count-requires
 judge-count-requires c κs = search needs

@@ -6,10 +6,6 @@ use Rattle.memory.proofs.CellCalls.{scrub-refused, scrub-missed}
 use borrow.Author.Needs.{needs}
 use Rattle.memory.proofs.access.answer_scrub.Statement.{statement}
 use Rattle.memory.proofs.access.answer_scrub.Tie as tie
-use Rattle.memory.proofs.access.answer_scrub.Reads as reads
-use Rattle.memory.proofs.access.answer_scrub.Lts as lts
-use Rattle.memory.proofs.aim.aim.Reads as aim-reads
-use Rattle.memory.proofs.cell.scrub_cell.Reads as scrub-cell-reads
 
 aim-requires : tie.Need-aim-requires
 aim-requires c κs = search needs

@@ -8,12 +8,6 @@ use Rattle.memory.proofs.CellCalls.{write-refused, write-missed}
 use borrow.Author.Needs.{needs}
 use Rattle.memory.proofs.access.answer_write.Statement.{statement}
 use Rattle.memory.proofs.access.answer_write.Tie as tie
-use Rattle.memory.proofs.access.answer_write.Reads as reads
-use Rattle.memory.proofs.access.answer_write.Lts as lts
-use Rattle.memory.proofs.aim.aim.Reads as aim-reads
-use Rattle.memory.proofs.aim.judge_count.Reads as judge-count-reads
-use Rattle.memory.proofs.cell.write_part.Reads as write-part-reads
-use Rattle.memory.proofs.cell.write_whole.Reads as write-whole-reads
 
 judge-count-requires : tie.Need-judge-count-requires
 judge-count-requires c κs = search needs

@@ -1,4 +1,4 @@
-use Rattle.memory.specs.Errors.{reported}
+use Rattle.errors.specs.Errors.{reported}
 use mathlib.Core.Path.{sym}
 use Rattle.ecc.specs.Columns.{columns}
 use Rattle.ecc.specs.Lending.{flipAt}
@@ -7,9 +7,6 @@ use Rattle.memory.proofs.CellCalls.{flip-unlent, flip-done}
 use borrow.Author.Needs.{needs}
 use Rattle.memory.proofs.cell.flip_cell.Statement.{statement}
 use Rattle.memory.proofs.cell.flip_cell.Tie as tie
-use Rattle.memory.proofs.cell.flip_cell.Reads as reads
-use Rattle.memory.proofs.cell.flip_cell.Lts as lts
-use Rattle.ecc.proofs.flip_at.Reads as flip-at-reads
 
 flip-at-requires : tie.Need-flip-at-requires
 flip-at-requires c κs = search needs

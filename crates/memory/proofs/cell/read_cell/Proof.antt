@@ -5,11 +5,6 @@ use Rattle.memory.proofs.CellCalls.{read-unlent, read-done}
 use borrow.Author.Needs.{needs}
 use Rattle.memory.proofs.cell.read_cell.Statement.{statement}
 use Rattle.memory.proofs.cell.read_cell.Tie as tie
-use Rattle.memory.proofs.cell.read_cell.Reads as reads
-use Rattle.memory.proofs.cell.read_cell.Lts as lts
-use Rattle.ecc.proofs.load_at.Reads as load-at-reads
-use Rattle.memory.proofs.bytes.copy_out.Reads as copy-out-reads
-use Rattle.memory.proofs.cell.kind_of.Reads as kind-of-reads
 
 load-at-requires : tie.Need-load-at-requires
 load-at-requires c κs = search needs

@@ -5,12 +5,6 @@ use Rattle.memory.proofs.CellCalls.{scrub-unlent, scrub-done}
 use borrow.Author.Needs.{needs}
 use Rattle.memory.proofs.cell.scrub_cell.Statement.{statement}
 use Rattle.memory.proofs.cell.scrub_cell.Tie as tie
-use Rattle.memory.proofs.cell.scrub_cell.Reads as reads
-use Rattle.memory.proofs.cell.scrub_cell.Lts as lts
-use Rattle.ecc.proofs.load_at.Reads as load-at-reads
-use Rattle.memory.proofs.cell.is_corrected.Reads as is-corrected-reads
-use Rattle.memory.proofs.cell.kind_of.Reads as kind-of-reads
-use Rattle.memory.proofs.cell.store_if.Reads as store-if-reads
 
 load-at-requires : tie.Need-load-at-requires
 load-at-requires c κs = search needs

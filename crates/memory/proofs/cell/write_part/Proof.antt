@@ -5,13 +5,6 @@ use Rattle.memory.proofs.CellCalls.{write-unlent, write-part}
 use borrow.Author.Needs.{needs}
 use Rattle.memory.proofs.cell.write_part.Statement.{statement}
 use Rattle.memory.proofs.cell.write_part.Tie as tie
-use Rattle.memory.proofs.cell.write_part.Reads as reads
-use Rattle.memory.proofs.cell.write_part.Lts as lts
-use Rattle.ecc.proofs.load_at.Reads as load-at-reads
-use Rattle.memory.proofs.bytes.merged.Reads as merged-reads
-use Rattle.memory.proofs.cell.is_right.Reads as is-right-reads
-use Rattle.memory.proofs.cell.kind_of.Reads as kind-of-reads
-use Rattle.memory.proofs.cell.store_if.Reads as store-if-reads
 
 load-at-requires : tie.Need-load-at-requires
 load-at-requires c κs = search needs

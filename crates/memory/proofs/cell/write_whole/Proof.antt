@@ -1,4 +1,4 @@
-use Rattle.memory.specs.Errors.{reported}
+use Rattle.errors.specs.Errors.{reported}
 use mathlib.Core.Path.{_≡_, refl, sym, _∙_}
 use Rattle.ecc.specs.Columns.{columns}
 use Rattle.ecc.specs.Lending.{storeAt}
@@ -7,10 +7,6 @@ use Rattle.memory.proofs.CellCalls.{merge-whole, write-unlent, write-wh
 use borrow.Author.Needs.{needs}
 use Rattle.memory.proofs.cell.write_whole.Statement.{statement}
 use Rattle.memory.proofs.cell.write_whole.Tie as tie
-use Rattle.memory.proofs.cell.write_whole.Reads as reads
-use Rattle.memory.proofs.cell.write_whole.Lts as lts
-use Rattle.ecc.proofs.store_at.Reads as store-at-reads
-use Rattle.memory.proofs.bytes.merged.Reads as merged-reads
 
 merged-requires : tie.Need-merged-requires
 merged-requires c κs = search needs

@@ -10,9 +10,9 @@ use Rattle.registers.specs.Record.{at, stored}
 use Rattle.registers.specs.declared.Registers.{Registers}
 use Rattle.banks.specs.Setup.{Setup, setupOf}
 use Rattle.banks.proofs.StoreLaws.{setup-between}
-use Rattle.memory.specs.declared.Kind.{Kind}
-use Rattle.memory.specs.declared.Kind.the-variants.{Clean, Corrected, Uncorrectable, Stored, NoBank, Flipped}
-use Rattle.memory.specs.Errors.{bitSet, undetected, addressed, detected, triggered, rose, counted, reported}
+use Rattle.errors.specs.declared.Kind.{Kind}
+use Rattle.errors.specs.declared.Kind.the-variants.{Clean, Corrected, Uncorrectable, Stored, NoBank, Flipped}
+use Rattle.errors.specs.Errors.{bitSet, undetected, addressed, detected, triggered, rose, counted, reported}
 
 either : (s : Setup) (t : Bool) (q r : Registers) → setupOf q ≡ s → setupOf r ≡ s → setupOf (cond t q r) ≡ s
 either s true q r h k = h

@@ -6,8 +6,8 @@ use lib.Bits.{bitOr}
 use lib.Dec.{ltb, eqb}
 use Rattle.registers.specs.Record.{at, stored}
 use Rattle.registers.specs.declared.Registers.{Registers}
-use Rattle.memory.specs.declared.Kind.{Kind}
-use Rattle.memory.specs.declared.Kind.the-variants.{Clean, Corrected, Uncorrectable, Stored, NoBank, Flipped}
+use Rattle.errors.specs.declared.Kind.{Kind}
+use Rattle.errors.specs.declared.Kind.the-variants.{Clean, Corrected, Uncorrectable, Stored, NoBank, Flipped}
 
 -- bit j of the byte at the offset o is set
 unfoldable pub bitSet : Registers → ℕ → ℕ → Bool

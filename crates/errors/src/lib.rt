@@ -1,9 +1,19 @@
 // What an answer does to the error registers.
 ghost use mathlib.Core.Path.{_≡_};
 ghost use Prim.Native.Nat.{_<_};
-ghost use Rattle.memory.specs.Errors.{bitSet, undetected, addressed, detected, triggered, counted, reported};
-use crate::Kind;
+ghost use Rattle.errors.specs.Errors.{bitSet, undetected, addressed, detected, triggered, counted, reported};
 use registers::Registers;
+
+// What an accepted access answers: document 01's "clean", "corrected", "uncorrectable", "stored" and "no bank". A flip answers
+// only that it was accepted, which is a kind here, so that the four calls share one answer.
+pub enum Kind {
+    Clean,
+    Corrected,
+    Uncorrectable,
+    Stored,
+    NoBank,
+    Flipped,
+}
 
 fn is_set(r: Registers, offset: u8, bit: u8) -> bool
     requires { ⌜ bit < 8 ⌝ }
@@ -67,7 +77,8 @@ fn count(r: Registers, address: u32) -> Registers
     s
 }
 
-fn report(r: Registers, kind: Kind, address: u32) -> Registers
+// The record after an answer of this kind at the address.
+fn after(r: Registers, kind: Kind, address: u32) -> Registers
     ensures { λ s. ⌜ s ≡ reported kind address r ⌝ }
 {
     match kind {
@@ -90,8 +101,8 @@ fn report(r: Registers, kind: Kind, address: u32) -> Registers
     }
 }
 
-// The same in place; kinds that change nothing store nothing.
-pub(crate) fn report_in(registers: &mut [u8; 256], kind: Kind, address: u32)
+// The record after an answer, in place; kinds that change nothing store nothing.
+pub fn report(registers: &mut [u8; 256], kind: Kind, address: u32)
     ensures { λ _. ⌜ now (registers .exit) ≡ reported kind address (record { bytes = now (registers .entry) }) .bytes ⌝ }
 {
     match kind {
@@ -99,8 +110,8 @@ pub(crate) fn report_in(registers: &mut [u8; 256], kind: Kind, address: u32)
         Kind::Stored => {}
         Kind::Flipped => {}
         _ => {
-            let after = report(Registers { bytes: *registers }, kind, address);
-            let bytes = after.bytes;
+            let new = after(Registers { bytes: *registers }, kind, address);
+            let bytes = new.bytes;
             *registers = bytes;
         }
     }
