@@ -3,4 +3,3 @@ pub mod ByteLaws
 pub mod PlainLaws
 pub mod FieldLaws
 pub mod FormatLaws
-pub mod PrintLaws

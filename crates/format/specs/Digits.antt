@@ -1,4 +1,4 @@
--- "The line program": digits, read and printed. A field that is not as the format asks has no value. Sentences in quotes are document 01's.
+-- "The line program": digits read. A field that is not as the format asks has no value. Sentences in quotes are document 01's.
 -- Assumes nothing.
 use Prim.Native.Nat.{ℕ, _+_, _*_, _-_, _/_, _%_}
 use mathlib.Core.Bool.{cond, _&&_}
@@ -49,20 +49,3 @@ hexBytes (a ∷ b ∷ bs) = onSome (hexFrom 0 (a ∷ b ∷ [])) (λ v. onSome (h
 -- "bytes 2 to 16 (even)"
 unfoldable pub bytesField : List ℕ → Option (List ℕ)
 bytesField bs = cond (ltb 0 (length bs) && leb (length bs) 16) (hexBytes bs) none
-
--- ---- printed
-
-unfoldable pub hexCharacter : ℕ → ℕ
-hexCharacter d = cond (ltb d 10) (0x30 + d) (0x57 + d)
-
--- a byte in two hexadecimal digits
-abbrev pub hexPair : ℕ → List ℕ
-hexPair b = hexCharacter (b / 16) ∷ hexCharacter (b % 16) ∷ []
-
-abbrev pub hexPairs : List ℕ → List ℕ
-hexPairs [] = []
-hexPairs (b ∷ bs) = hexPair b ++ hexPairs bs
-
--- a number below 100
-unfoldable pub decimal : ℕ → List ℕ
-decimal n = cond (ltb n 10) ((0x30 + n) ∷ []) ((0x30 + n / 10) ∷ (0x30 + n % 10) ∷ [])

@@ -1,30 +1,9 @@
-// Digits, read and printed. What is no digit has a value out of range.
+// Digits read. What is no digit has a value out of range.
 ghost use mathlib.Core.Path.{_≡_};
-ghost use Prim.Native.Nat.{_+_, _*_, _/_, _%_, _<_, _≤_, _^_};
+ghost use Prim.Native.Nat.{_+_, _*_, _<_, _≤_, _^_};
 ghost use mathlib.Core.List.{[], _∷_};
 ghost use lib.ListN.{length, take, drop};
-ghost use Rattle.format.specs.Digits.{below, hexCharacter, decimalDigit, hexDigit, hexFrom};
-
-// A hexadecimal digit's character.
-fn character(d: u8) -> u8
-    requires { ⌜ d < 16 ⌝ }
-    ensures { λ r. ⌜ r ≡ hexCharacter d ⌝ }
-{
-    if d < 10 { 0x30 + d } else { 0x57 + d }
-}
-
-// The first and the second of the two digits that print a byte.
-pub(crate) fn high_digit(b: u8) -> u8
-    ensures { λ r. ⌜ r ≡ hexCharacter (b / 16) ⌝ }
-{
-    character(b / 16)
-}
-
-pub(crate) fn low_digit(b: u8) -> u8
-    ensures { λ r. ⌜ r ≡ hexCharacter (b % 16) ⌝ }
-{
-    character(b % 16)
-}
+ghost use Rattle.format.specs.Digits.{below, decimalDigit, hexDigit, hexFrom};
 
 // A decimal digit's value, or 100.
 pub(crate) fn decimal_digit(b: u8) -> u8

@@ -1,4 +1,4 @@
-// The line format of the program `busline`: what a line asks for, and what an answer prints.
+// The line format of the program `busline`: what a line asks for.
 ghost use mathlib.Core.Path.{_≡_};
 ghost use Prim.Native.Nat.{_≤_};
 ghost use lib.ListN.{length, drop, getD};
@@ -8,10 +8,8 @@ ghost use Rattle.format.specs.Parsed.{meant};
 mod bytes;
 mod digits;
 mod memory_lines;
-pub mod print;
 mod register_lines;
 mod request;
-mod text;
 
 use memory_lines::parse_flip;
 use memory_lines::parse_read;

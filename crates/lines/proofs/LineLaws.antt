@@ -25,12 +25,12 @@ use Rattle.memory.proofs.CallLaws.{refusal-unready, refusal-ready, called-refus
 use Rattle.format.specs.declared.request.Parsed.{Parsed}
 use Rattle.format.specs.declared.request.Request.{Request}
 use Rattle.format.specs.Parsed.{asked, meant}
-use Rattle.format.specs.Output.{writtenText, readingText, accessText}
+use Rattle.print.specs.Output.{writtenText, readingText, accessText}
 use Rattle.format.specs.Format.{parse}
 use Rattle.lines.specs.Line.{Printed, printedEffect, callOf, orMalformed, lineOf}
 use Rattle.lines.specs.Printed.{held, lined, told, lineInto}
-use Rattle.format.specs.Printed.{put, briefText}
-use Rattle.format.proofs.PrintLaws.{put-laid}
+use Rattle.print.specs.Printed.{put, briefText}
+use Rattle.print.proofs.PrintLaws.{put-laid}
 
 -- the buffer that a call was lent does not matter: a refused one prints no bytes
 pub any-buffer : (cols : List ℕ) (r : Registers) (cells : List ℕ) (x : Access) (b d : List ℕ)

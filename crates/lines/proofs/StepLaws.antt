@@ -12,7 +12,7 @@ use lib.Seq.{drop-drop, take-all, take-append-add, take-append-seam, drop-append
 use borrow.Author.Tests.{le-leb, lt-leb}
 use borrow.Rule.Slice.PartMut.{midOf, putMid}
 use Rattle.ranges.proofs.RangeLaws.{byCases}
-use Rattle.format.proofs.PrintLaws.{least-le, take-least}
+use Rattle.print.proofs.PrintLaws.{least-le, take-least}
 use Rattle.lines.specs.Line.{Printed, lineOf}
 use Rattle.memory.specs.Calls.{State}
 use Rattle.lines.specs.Text.{Fed, lineLength, fed, after, ended}

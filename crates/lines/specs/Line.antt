@@ -7,7 +7,7 @@ use Rattle.control.specs.Calls.{readAt, declined, written}
 use Rattle.memory.specs.Access.{Access, Call, memory, readRegister, writeRegister}
 use Rattle.memory.specs.Calls.{State, Effect, called}
 use Rattle.format.specs.Format.{parse}
-use Rattle.format.specs.Output.{malformedText, writtenText, readingText, accessText}
+use Rattle.print.specs.Output.{malformedText, writtenText, readingText, accessText}
 
 -- the bytes printed, LF included, with the record and the cells after
 abbrev pub Printed : Type 0

@@ -8,7 +8,6 @@ ghost use Rattle.memory.specs.Access.{read, write, flip, scrub, memory, readReg
 ghost use Rattle.lines.specs.Line.{callOf};
 ghost use Rattle.lines.specs.Printed.{held, lined, told, lineInto};
 use format::Request;
-use format::print;
 use registers::Registers;
 
 // `c`

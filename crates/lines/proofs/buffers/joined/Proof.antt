@@ -2,7 +2,7 @@ use native.Mathlib.Omega.{arith}
 use Prim.Native.Nat.{_-_}
 use mathlib.Core.Path.{_≡_}
 use lib.ListN.{length, length-take}
-use Rattle.format.proofs.PrintLaws.{least-le}
+use Rattle.print.proofs.PrintLaws.{least-le}
 use Rattle.lines.proofs.StepLaws.{extended-is}
 use borrow.Author.Needs.{needs}
 use Rattle.lines.proofs.buffers.joined.Statement.{statement}

@@ -5,7 +5,7 @@ use Prim.Native.Nat.{ℕ}
 use lib.ListN.{length}
 use lib.Seq.{length-take-le}
 use Rattle.ecc.specs.Columns.{columns}
-use Rattle.format.proofs.PrintLaws.{least-le}
+use Rattle.print.proofs.PrintLaws.{least-le}
 use Rattle.lines.specs.Printed.{held, lineInto}
 use Rattle.lines.proofs.StepLaws.{take-41}
 use borrow.Author.Needs.{needs}

@@ -2,7 +2,7 @@ use native.Mathlib.Omega.{arith}
 use mathlib.Core.Path.{refl, sym, _∙_}
 use lib.Seq.{length-take-le}
 use Rattle.ecc.specs.Columns.{columns}
-use Rattle.format.specs.Output.{malformedText}
+use Rattle.print.specs.Output.{malformedText}
 use Rattle.lines.specs.Line.{orMalformed}
 use Rattle.lines.proofs.LineLaws.{no-room, line-told, executed}
 use borrow.Author.Needs.{needs}

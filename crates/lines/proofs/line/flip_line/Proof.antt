@@ -3,8 +3,8 @@ use mathlib.Core.List.{[]}
 use Rattle.ecc.specs.Columns.{columns}
 use Rattle.memory.specs.Access.{flip}
 use Rattle.memory.specs.Calls.{flipCall}
-use Rattle.format.specs.Printed.{flippedText}
-use Rattle.format.proofs.PrintLaws.{flip-text}
+use Rattle.print.specs.Printed.{flippedText}
+use Rattle.print.proofs.PrintLaws.{flip-text}
 use Rattle.lines.proofs.LineLaws.{line-told, memory-line}
 use borrow.Author.Needs.{needs}
 use Rattle.lines.proofs.line.flip_line.Statement.{statement}

@@ -1,7 +1,7 @@
 use native.Mathlib.Omega.{arith}
 use Rattle.ecc.specs.Columns.{columns}
 use Rattle.control.specs.Calls.{paperReading}
-use Rattle.format.specs.Output.{readingText}
+use Rattle.print.specs.Output.{readingText}
 use Rattle.lines.proofs.LineLaws.{line-told, get-line-is}
 use borrow.Author.Needs.{needs}
 use Rattle.lines.proofs.line.get_line.Statement.{statement}

@@ -1,7 +1,7 @@
 use native.Mathlib.Omega.{arith}
 use Rattle.ecc.specs.Columns.{columns}
 use Rattle.memory.specs.Calls.{readCall}
-use Rattle.format.specs.Printed.{briefText}
+use Rattle.print.specs.Printed.{briefText}
 use Rattle.lines.proofs.LineLaws.{line-told, long-line}
 use borrow.Author.Needs.{needs}
 use Rattle.lines.proofs.line.read_long.Statement.{statement}

@@ -7,8 +7,8 @@ use lib.Seq.{length-take-le, take-at}
 use Rattle.ecc.specs.Columns.{columns}
 use Rattle.memory.specs.Access.{read}
 use Rattle.memory.specs.Calls.{readCall}
-use Rattle.format.specs.Printed.{dataText}
-use Rattle.format.proofs.PrintLaws.{read-text}
+use Rattle.print.specs.Printed.{dataText}
+use Rattle.print.proofs.PrintLaws.{read-text}
 use Rattle.lines.proofs.LineLaws.{line-told, memory-line}
 use borrow.Author.Needs.{needs}
 use Rattle.lines.proofs.line.read_short.Statement.{statement}

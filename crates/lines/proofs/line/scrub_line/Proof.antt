@@ -3,8 +3,8 @@ use mathlib.Core.List.{[]}
 use Rattle.ecc.specs.Columns.{columns}
 use Rattle.memory.specs.Access.{scrub}
 use Rattle.memory.specs.Calls.{scrubCall}
-use Rattle.format.specs.Printed.{briefText}
-use Rattle.format.proofs.PrintLaws.{scrub-text}
+use Rattle.print.specs.Printed.{briefText}
+use Rattle.print.proofs.PrintLaws.{scrub-text}
 use Rattle.lines.proofs.LineLaws.{line-told, memory-line}
 use borrow.Author.Needs.{needs}
 use Rattle.lines.proofs.line.scrub_line.Statement.{statement}

@@ -1,7 +1,7 @@
 use native.Mathlib.Omega.{arith}
 use Rattle.refusals.specs.Paper.{paperVerdict}
 use Rattle.ecc.specs.Columns.{columns}
-use Rattle.format.specs.Output.{writtenText}
+use Rattle.print.specs.Output.{writtenText}
 use Rattle.lines.proofs.LineLaws.{line-told, set-line-is}
 use borrow.Author.Needs.{needs}
 use Rattle.lines.proofs.line.set_line.Statement.{statement}

@@ -1,0 +1,36 @@
+use native.Mathlib.Omega.{arith}
+use mathlib.Core.List.{[], _∷_}
+use lib.ListN.{length-set}
+use Rattle.print.proofs.PrintLaws.{laid-sets}
+use borrow.Author.Needs.{needs}
+use Rattle.print.proofs.text.accepted.Statement.{statement}
+use Rattle.print.proofs.text.accepted.Tie as tie
+
+slice-write-out : tie.Need-slice-write-out
+slice-write-out c = search needs
+
+slice-write-out-2 : tie.Need-slice-write-out-2
+slice-write-out-2 c = simp length-set (omega arith)
+
+slice-write-out-3 : tie.Need-slice-write-out-3
+slice-write-out-3 c = simp length-set (omega arith)
+
+slice-write-out-4 : tie.Need-slice-write-out-4
+slice-write-out-4 c = simp length-set (omega arith)
+
+same-length : tie.Need-same-length
+same-length c = search needs
+
+returns : tie.Need-returns
+returns c = (laid-sets (c .args .letter ∷ 0x2C ∷ 0x30 ∷ 0x0A ∷ []) (c .args .out .now) (omega arith), omega arith)
+
+pub accepted-spec : {M : Type 1} → statement M
+accepted-spec =
+    tie.close
+    (tie.spec
+    slice-write-out
+    slice-write-out-2
+    slice-write-out-3
+    slice-write-out-4
+    same-length
+    returns)

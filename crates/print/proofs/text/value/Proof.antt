@@ -1,0 +1,58 @@
+use native.Mathlib.Omega.{arith}
+use mathlib.Core.List.{[], _∷_}
+use lib.ListN.{length-set}
+use Rattle.print.proofs.PrintLaws.{laid-sets}
+use borrow.Author.Needs.{needs}
+use Rattle.print.proofs.text.value.Statement.{statement}
+use Rattle.print.proofs.text.value.Tie as tie
+
+slice-write-out : tie.Need-slice-write-out
+slice-write-out c = search needs
+
+slice-write-out-2 : tie.Need-slice-write-out-2
+slice-write-out-2 c = simp length-set (omega arith)
+
+slice-write-out-3 : tie.Need-slice-write-out-3
+slice-write-out-3 c = simp length-set (omega arith)
+
+slice-write-out-4 : tie.Need-slice-write-out-4
+slice-write-out-4 c = simp length-set (omega arith)
+
+high-digit-requires : tie.Need-high-digit-requires
+high-digit-requires c κs = search needs
+
+slice-write-out-5 : tie.Need-slice-write-out-5
+slice-write-out-5 c = simp length-set (omega arith)
+
+low-digit-requires : tie.Need-low-digit-requires
+low-digit-requires c κs = search needs
+
+slice-write-out-6 : tie.Need-slice-write-out-6
+slice-write-out-6 c = simp length-set (omega arith)
+
+slice-write-out-7 : tie.Need-slice-write-out-7
+slice-write-out-7 c = simp length-set (omega arith)
+
+same-length : tie.Need-same-length
+same-length c = search needs
+
+returns : tie.Need-returns
+returns c =
+    let a = c .before .before .before .args in
+    (rw (← c .before .high-digit .ensures, ← c .low-digit .ensures) (laid-sets (0x67 ∷ 0x2C ∷ 0x30 ∷ 0x2C ∷ c .before .high-digit .result ∷ c .low-digit .result ∷ 0x0A ∷ []) (a .out .now) (omega arith)), omega arith)
+
+pub value-spec : {M : Type 1} → statement M
+value-spec =
+    tie.close
+    (tie.spec
+    slice-write-out
+    slice-write-out-2
+    slice-write-out-3
+    slice-write-out-4
+    high-digit-requires
+    slice-write-out-5
+    low-digit-requires
+    slice-write-out-6
+    slice-write-out-7
+    same-length
+    returns)
