@@ -2,10 +2,11 @@
 -- Assumes nothing.
 use Prim.Native.Nat.{ℕ}
 use mathlib.Core.Bool.{cond}
-use mathlib.Core.List.{List, _++_}
+use mathlib.Core.List.{List}
 use lib.Dec.{leb}
-use lib.ListN.{length, drop}
+use lib.ListN.{length}
 use Rattle.memory.specs.Calls.{State}
+use Rattle.print.specs.Printed.{laid}
 use Rattle.lines.specs.Line.{Printed, lineOf}
 use Rattle.lines.specs.Text.{ended}
 
@@ -19,7 +20,7 @@ lined n out bytes cells = (n, out, held bytes cells)
 
 -- what is printed stands at the start of the output: what is behind it stays
 abbrev pub told : List ℕ → Printed → ℕ × List ℕ × State
-told out p = (length (p .0), p .0 ++ drop (length (p .0)) out, p .1)
+told out p = let l = laid (p .0) out in (l .0, l .1, p .1)
 
 -- a line, and the end of the input: nothing is done where the output has no room for 24 bytes, since no line prints more
 unfoldable pub lineInto : List ℕ → State → List ℕ → List ℕ → ℕ × List ℕ × State

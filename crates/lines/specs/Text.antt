@@ -9,7 +9,7 @@ use Rattle.memory.specs.Calls.{State}
 use Rattle.format.specs.Format.{onto}
 use Rattle.lines.specs.Line.{Printed, lineOf}
 
--- "lines ended by LF (the last LF may lack; .."): what stands after the last LF is a line if it has a byte
+-- "lines ended by LF (the last LF may lack; ..)": what stands after the last LF is a line if it has a byte
 unfoldable pub linesOf : List ℕ → List (List ℕ)
 linesOf [] = []
 linesOf (b ∷ bs) = cond (eqb b 0x0A) ([] ∷ linesOf bs) (onto b (linesOf bs))
