@@ -14,7 +14,7 @@ use Rattle.banks.specs.Setup.{Setup, setupOf}
 use Rattle.banks.specs.Judge.{ready}
 use Rattle.banks.specs.Map.{cellOf}
 use Rattle.banks.proofs.MapLaws.{isSome, MapLaws, map-laws}
-use Rattle.control.proofs.SwitchLaws.{setup-written, ready-written}
+use Rattle.register_calls.proofs.SwitchLaws.{setup-written, ready-written}
 use Rattle.ecc.specs.Columns.{columns, accepted}
 use Rattle.ecc.proofs.ColumnLaws.{columns-accepted}
 use Rattle.memory.specs.Access.{Access, read, write, flip, scrub, addressOf, parts, Got, Given, Call, memory, readRegister, writeRegister}

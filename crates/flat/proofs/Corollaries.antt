@@ -14,8 +14,8 @@ use Rattle.banks.specs.Setup.{setupOf}
 use Rattle.banks.specs.Map.{cellCount}
 use Rattle.banks.proofs.MapLaws.{isSome}
 use Rattle.ecc.specs.Columns.{accepted}
-use Rattle.errors.specs.declared.Kind.{Kind}
-use Rattle.errors.specs.declared.Kind.the-variants.{Clean, Corrected, Uncorrectable, Stored, NoBank, Flipped}
+use Rattle.calls.specs.declared.Kind.{Kind}
+use Rattle.calls.specs.declared.Kind.the-variants.{Clean, Corrected, Uncorrectable, Stored, NoBank, Flipped}
 use Rattle.memory.specs.Access.{Access, read, write, flip, scrub, addressOf, parts, Got, Given, Call, memory, readRegister, writeRegister}
 use Rattle.memory.specs.Spans.{Spans, byCall, missed}
 use Rattle.memory.specs.Calls.{spansOf, run}

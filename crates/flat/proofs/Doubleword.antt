@@ -15,7 +15,7 @@ use Rattle.ecc.specs.Columns.{accepted}
 use Rattle.ecc.specs.Code.{flipBit}
 use Rattle.ecc.specs.Cell.{encode, loadOf}
 use Rattle.ecc.proofs.Laws.{encode-length, flip-length, load-clean, load-flipped}
-use Rattle.errors.specs.declared.Kind.the-variants.{Clean, Corrected}
+use Rattle.calls.specs.declared.Kind.the-variants.{Clean, Corrected}
 use Rattle.memory.specs.Access.{Access, read, write, flip, scrub, addressOf, got}
 use Rattle.memory.specs.Cells.{answerOf, merge, readCell, unlessLost, mergeCell, writeCell, ifCorrected, scrubCell, onCell}
 use Rattle.flat.specs.Flat.{Flat, byMark, marked, flatHeld}

@@ -9,8 +9,8 @@ use native.Mathlib.Omega.{arith}
 use native.Mathlib.Nat.{le-of-suc-le-suc, not-suc-le-zero}
 use lib.Dec.{eqb}
 use borrow.Author.Tests.{eqb-true, eqb-false, eq-eqb}
-use Rattle.ranges.proofs.Bools.{and-right, or-left, or-right}
-use Rattle.ranges.proofs.RangeLaws.{byCases, contra}
+use Rattle.basics.proofs.Bools.{and-right, or-left, or-right}
+use Rattle.basics.proofs.RangeLaws.{byCases, contra}
 use Rattle.refusals.specs.Paper.{Declined}
 use Rattle.memory.specs.Access.{Access, read, write, flip, scrub, addressOf, parts, Call, memory, readRegister, writeRegister}
 use Rattle.memory.specs.Spans.{Spans, byCall, missed}

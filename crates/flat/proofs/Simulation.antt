@@ -18,16 +18,16 @@ use Rattle.ecc.specs.Cell.{encode}
 use Rattle.ecc.specs.Lending.{cellAt, isLent}
 use Rattle.ecc.proofs.Laws.{encode-zeros}
 use Rattle.ecc.proofs.CellLaws.{fits-lent, put-length, put-same, put-other, cell-zeros}
-use Rattle.errors.specs.declared.Kind.the-variants.{NoBank}
+use Rattle.calls.specs.declared.Kind.the-variants.{NoBank}
 use Rattle.memory.specs.Access.{Access, addressOf, Got}
 use Rattle.memory.specs.Spans.{missed}
-use Rattle.errors.specs.Errors.{reported}
+use Rattle.error_registers.specs.Errors.{reported}
 use Rattle.memory.specs.Cells.{onCell}
 use Rattle.memory.specs.Calls.{State, spansOf, putAt, access, accessAt}
 use Rattle.flat.specs.Flat.{Flat, flatHeld, flatAccess, blank}
 use Rattle.flat.proofs.Octets.{octet, octet-length, octet-zero}
 use Rattle.flat.proofs.Doubleword.{Allowed, Fresh, Sound, sound, Alone, alone, after, coded, coded-length, Holds, Agree, agree}
-use Rattle.errors.proofs.ErrorLaws.{setup-reported}
+use Rattle.error_registers.proofs.ErrorLaws.{setup-reported}
 
 -- the cells after what an access stored in cell k
 module _ (cells : List ℕ) (k : ℕ) (lent : isLent cells k ≡ true) where

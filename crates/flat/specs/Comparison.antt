@@ -11,7 +11,7 @@ use Rattle.refusals.specs.Paper.{Declined}
 use Rattle.registers.specs.declared.Registers.{Registers}
 use Rattle.banks.specs.Setup.{setupOf}
 use Rattle.banks.specs.Map.{cellCount}
-use Rattle.control.specs.Calls.{declined, written}
+use Rattle.register_calls.specs.Calls.{declined, written}
 use Rattle.memory.specs.Access.{Access, read, write, flip, scrub, parts, Call, memory, readRegister, writeRegister}
 use Rattle.memory.specs.Spans.{Spans, byCall}
 use Rattle.memory.specs.Calls.{spansOf, run}

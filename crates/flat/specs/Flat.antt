@@ -7,8 +7,8 @@ use mathlib.Core.Option.{Option, none, some}
 use lib.Dec.{ltb, leb, eqb}
 use lib.ListN.{length, getD}
 use Rattle.refusals.specs.Paper.{Declined, refused, given}
-use Rattle.errors.specs.declared.Kind.{Kind}
-use Rattle.errors.specs.declared.Kind.the-variants.{Clean, Corrected, Stored, Flipped}
+use Rattle.calls.specs.declared.Kind.{Kind}
+use Rattle.calls.specs.declared.Kind.the-variants.{Clean, Corrected, Stored, Flipped}
 use Rattle.memory.specs.Access.{Access, read, write, flip, scrub, addressOf, parts, Got, got, Given, Call, memory, readRegister, writeRegister}
 use Rattle.memory.specs.Spans.{Spans, byCall, missed}
 

@@ -8,25 +8,25 @@ use Prim.Native.Nat.{ℕ, _<_, _≤_}
 use native.Mathlib.Omega.{arith}
 use lib.ListN.{length, take}
 use borrow.Author.Tests.{lt-ltb, ne-eqb, le-leb, lt-leb}
-use Rattle.ranges.proofs.RangeLaws.{byCases}
+use Rattle.basics.proofs.RangeLaws.{byCases}
 use Rattle.refusals.specs.Paper.{Declined, paperVerdict, Outcome, refused, given}
 use Rattle.refusals.specs.declared.Verdict.{Verdict}
 use Rattle.registers.specs.declared.Registers.{Registers}
 use Rattle.banks.specs.Setup.{setupOf}
 use Rattle.banks.specs.Judge.{ready}
-use Rattle.control.specs.declared.Reading.{Reading}
-use Rattle.control.specs.Calls.{readAt, writeAt, paperReading}
+use Rattle.register_calls.specs.declared.Reading.{Reading}
+use Rattle.register_calls.specs.Calls.{readAt, writeAt, paperReading}
 use Rattle.memory.specs.declared.Answer.{Answer}
 use Rattle.memory.specs.declared.Answer.the-variants.{Refused, Done}
 use Rattle.memory.specs.Access.{Access, read, Given, Call, memory, readRegister, writeRegister}
 use Rattle.memory.specs.Spans.{byCall, byArguments, byCount}
 use Rattle.memory.specs.Calls.{State, refusal, memoryCall, Effect, paperAnswer, leaves, recorded, calledAt, effectOf, called}
 use Rattle.memory.proofs.CallLaws.{refusal-unready, refusal-ready, called-refused}
-use Rattle.format.specs.declared.request.Parsed.{Parsed}
-use Rattle.format.specs.declared.request.Request.{Request}
-use Rattle.format.specs.Parsed.{asked, meant}
+use Rattle.parser.specs.declared.request.Parsed.{Parsed}
+use Rattle.parser.specs.declared.request.Request.{Request}
+use Rattle.parser.specs.Parsed.{asked, meant}
 use Rattle.print.specs.Output.{writtenText, readingText, accessText}
-use Rattle.format.specs.Format.{parse}
+use Rattle.parser.specs.Format.{parse}
 use Rattle.lines.specs.Line.{Printed, printedEffect, callOf, orMalformed, lineOf}
 use Rattle.lines.specs.Printed.{held, lined, told, lineInto}
 use Rattle.print.specs.Printed.{put, briefText}

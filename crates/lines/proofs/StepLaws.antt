@@ -11,7 +11,7 @@ use lib.ListN.{length, take, drop, length-append, length-drop, drop-of-length-le
 use lib.Seq.{drop-drop, take-all, take-append-add, take-append-seam, drop-append-add, drop-append-seam, take-paste, length-take-le, paste}
 use borrow.Author.Tests.{le-leb, lt-leb}
 use borrow.Rule.Slice.PartMut.{midOf, putMid}
-use Rattle.ranges.proofs.RangeLaws.{byCases}
+use Rattle.basics.proofs.RangeLaws.{byCases}
 use Rattle.print.proofs.PrintLaws.{least-le, take-least}
 use Rattle.lines.specs.Line.{Printed, lineOf}
 use Rattle.memory.specs.Calls.{State}

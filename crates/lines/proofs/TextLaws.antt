@@ -8,12 +8,12 @@ use lib.Dec.{eqb, ltb}
 use lib.ListN.{length, getD, take, drop, length-take, drop-of-length-le}
 use lib.Seq.{take-all, append-snoc, drop-cons}
 use borrow.Author.Tests.{ltb-true, ltb-false, eq-eqb, ne-eqb}
-use Rattle.ranges.proofs.RangeLaws.{byCases}
+use Rattle.basics.proofs.RangeLaws.{byCases}
 use Rattle.memory.specs.Calls.{State}
-use Rattle.format.specs.Format.{onto, parse}
+use Rattle.parser.specs.Format.{onto, parse}
 use Rattle.lines.specs.Line.{Printed, lineOf}
 use Rattle.lines.specs.Text.{linesOf, joined, lineLength, Fed, printed, textOf, fedByte, fed, ended, chunked, after}
-use Rattle.format.proofs.FormatLaws.{parse-long}
+use Rattle.parser.proofs.FormatLaws.{parse-long}
 
 -- ---- 41 bytes tell a line
 

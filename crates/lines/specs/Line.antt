@@ -3,10 +3,10 @@
 use Prim.Native.Nat.{ℕ}
 use mathlib.Core.List.{List, []}
 use mathlib.Core.Option.{Option, none, some}
-use Rattle.control.specs.Calls.{readAt, declined, written}
+use Rattle.register_calls.specs.Calls.{readAt, declined, written}
 use Rattle.memory.specs.Access.{Access, Call, memory, readRegister, writeRegister}
 use Rattle.memory.specs.Calls.{State, Effect, called}
-use Rattle.format.specs.Format.{parse}
+use Rattle.parser.specs.Format.{parse}
 use Rattle.print.specs.Output.{malformedText, writtenText, readingText, accessText}
 
 -- the bytes printed, LF included, with the record and the cells after

@@ -6,7 +6,7 @@ use mathlib.Core.List.{List, [], _∷_, _++_}
 use lib.Dec.{eqb}
 use lib.ListN.{take}
 use Rattle.memory.specs.Calls.{State}
-use Rattle.format.specs.Format.{onto}
+use Rattle.parser.specs.Format.{onto}
 use Rattle.lines.specs.Line.{Printed, lineOf}
 
 -- "lines ended by LF (the last LF may lack; ..)": what stands after the last LF is a line if it has a byte

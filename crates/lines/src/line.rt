@@ -7,7 +7,7 @@ ghost use Rattle.ecc.specs.Columns.{columns};
 ghost use Rattle.memory.specs.Access.{read, write, flip, scrub, memory, readRegister, writeRegister};
 ghost use Rattle.lines.specs.Line.{callOf};
 ghost use Rattle.lines.specs.Printed.{held, lined, told, lineInto};
-use format::Request;
+use parser::Request;
 use registers::Registers;
 
 // `c`
@@ -16,7 +16,7 @@ fn set_line(registers: &mut [u8; 256], offset: u8, value: u8, out: &mut [u8]) ->
     ensures { λ n. ⌜ ((cells : List ℕ) → lined n (now (out .exit)) (now (registers .exit)) cells ≡ told (now (out .entry)) (callOf columns (held (now (registers .entry)) cells) (writeRegister offset value))) ⌝ }
     ensures { λ n. ⌜ n ≤ 24 ⌝ }
 {
-    print::written(control::set(registers, offset, value), out)
+    print::written(register_calls::set(registers, offset, value), out)
 }
 
 // `g`
@@ -25,7 +25,10 @@ fn get_line(registers: &[u8; 256], offset: u8, out: &mut [u8]) -> usize
     ensures { λ n. ⌜ ((cells : List ℕ) → lined n (now (out .exit)) (now (registers .entry)) cells ≡ told (now (out .entry)) (callOf columns (held (now (registers .entry)) cells) (readRegister offset))) ⌝ }
     ensures { λ n. ⌜ n ≤ 24 ⌝ }
 {
-    print::reading(control::read(Registers { bytes: *registers }, offset), out)
+    print::reading(
+        register_calls::read(Registers { bytes: *registers }, offset),
+        out,
+    )
 }
 
 // `w`
@@ -141,7 +144,7 @@ pub fn execute(registers: &mut [u8; 256], cells: &mut [u8], line: &[u8], out: &m
     if out.len() < 24 {
         return 0;
     }
-    let parsed = format::parse(line);
+    let parsed = parser::parse(line);
     let request = parsed.request;
     match request {
         Request::Malformed => print::malformed(out),

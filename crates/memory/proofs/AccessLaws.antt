@@ -5,7 +5,7 @@ use mathlib.Core.Path.{_≡_, ap, _∙_}
 use mathlib.Core.Bool.{true, false}
 use mathlib.Core.Option.{none, some}
 use mathlib.Core.List.{List, [], _∷_}
-use Rattle.ranges.proofs.RangeLaws.{byCases}
+use Rattle.basics.proofs.RangeLaws.{byCases}
 use Rattle.refusals.specs.Paper.{_else_, refused, given}
 use Rattle.registers.specs.declared.Registers.{Registers}
 use Rattle.banks.specs.Setup.{setupOf}
@@ -19,10 +19,10 @@ use Rattle.ecc.specs.declared.CellChange.{CellChange}
 use Rattle.ecc.specs.declared.CellChange.the-variants as change
 use Rattle.ecc.specs.Cell.{loadOf}
 use Rattle.ecc.specs.Lending.{cellAt, putCell, isLent, lentReading, notLent, loadAt, changeTo}
-use Rattle.errors.specs.declared.Kind.the-variants.{NoBank}
+use Rattle.calls.specs.declared.Kind.the-variants.{NoBank}
 use Rattle.memory.specs.Access.{Access, addressOf}
 use Rattle.memory.specs.Spans.{byArguments, bySpans, byCall, missed}
-use Rattle.errors.specs.Errors.{reported}
+use Rattle.error_registers.specs.Errors.{reported}
 use Rattle.memory.specs.Calls.{spansOf, unlentAt, refusal, Effect, called}
 use Rattle.memory.specs.Aim.{early}
 use Rattle.memory.proofs.CallLaws.{refusal-unready, refusal-ready, called-refused, called-missed, doneAt, called-at}

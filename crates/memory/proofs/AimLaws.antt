@@ -7,7 +7,7 @@ use mathlib.Core.Option.{none, some}
 use mathlib.Core.List.{[], _∷_}
 use lib.Dec.{ltb, eqb}
 use borrow.Author.Tests.{ltb-false}
-use Rattle.ranges.proofs.RangeLaws.{byCases}
+use Rattle.basics.proofs.RangeLaws.{byCases}
 use Rattle.refusals.specs.Paper.{paper, Declined, refused, given, paperVerdict}
 use Rattle.refusals.specs.declared.Refusal.{Refusal}
 use Rattle.refusals.specs.declared.Verdict.{Verdict}

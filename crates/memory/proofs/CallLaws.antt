@@ -11,10 +11,10 @@ use Rattle.banks.specs.Setup.{setupOf}
 use Rattle.banks.specs.Judge.{ready}
 use Rattle.banks.specs.Map.{cellOf}
 use Rattle.ecc.specs.Lending.{cellAt}
-use Rattle.errors.specs.declared.Kind.the-variants.{NoBank}
+use Rattle.calls.specs.declared.Kind.the-variants.{NoBank}
 use Rattle.memory.specs.Access.{Access, addressOf, parts}
 use Rattle.memory.specs.Spans.{byCall, missed}
-use Rattle.errors.specs.Errors.{reported}
+use Rattle.error_registers.specs.Errors.{reported}
 use Rattle.memory.specs.Cells.{onCell}
 use Rattle.memory.specs.Calls.{State, spansOf, unlentAt, unlent, refusal, putAt, accessAt, access, accesses, settled, memoryCall, Effect, called}
 

@@ -19,10 +19,10 @@ use Rattle.ecc.specs.declared.LoadedCell.{LoadedCell}
 use Rattle.ecc.specs.Code.{flipBit}
 use Rattle.ecc.specs.Cell.{encode, loadOf}
 use Rattle.ecc.specs.Lending.{cellAt, putCell, isLent, loadAt}
-use Rattle.errors.specs.declared.Kind.the-variants.{Stored, NoBank, Flipped}
+use Rattle.calls.specs.declared.Kind.the-variants.{Stored, NoBank, Flipped}
 use Rattle.memory.specs.Access.{read, write, flip, scrub}
 use Rattle.memory.specs.Spans.{byArguments, byCount, byBit, bySpans, missed}
-use Rattle.errors.specs.Errors.{reported}
+use Rattle.error_registers.specs.Errors.{reported}
 use Rattle.memory.specs.Cells.{answerOf, merge, readCell, unlessLost, mergeCell, writeCell, ifCorrected, scrubCell, onCell}
 use Rattle.memory.specs.Calls.{spansOf, putAt, readCall, writeCall, flipCall, scrubCall}
 use Rattle.memory.specs.Aim.{early, isRight, isCorrected}

@@ -5,7 +5,7 @@ use mathlib.Core.List.{[], _∷_}
 use mathlib.Core.Option.{some}
 use native.Mathlib.Omega.{arith}
 use lib.ListN.{replicate}
-use Rattle.ranges.specs.Range.{firstOf, first, sum}
+use Rattle.basics.specs.Range.{firstOf, first, sum}
 use Rattle.refusals.specs.Paper.{given, refused}
 use Rattle.registers.specs.Record.{fresh, stored}
 use Rattle.registers.specs.declared.Registers.{Registers}

@@ -3,7 +3,7 @@
 use Prim.Native.Nat.{ℕ}
 use mathlib.Core.List.{List, [], _∷_}
 use Rattle.refusals.specs.Paper.{Outcome}
-use Rattle.errors.specs.declared.Kind.{Kind}
+use Rattle.calls.specs.declared.Kind.{Kind}
 
 -- an access: of a read the address and the count, "the count being the lent buffer's length (a write's too)"; of a write the address and
 -- the bytes; of a flip the address and the bit; of a scrub the address

@@ -11,16 +11,16 @@ use Rattle.registers.specs.declared.Registers.{Registers}
 use Rattle.banks.specs.Setup.{Setup, setupOf}
 use Rattle.banks.specs.Judge.{ready}
 use Rattle.banks.specs.Map.{inSpan, cellOf}
-use Rattle.control.specs.Calls.{written}
+use Rattle.register_calls.specs.Calls.{written}
 use Rattle.ecc.specs.Lending.{cellAt, putCell, isLent}
-use Rattle.errors.specs.declared.Kind.{Kind}
-use Rattle.errors.specs.declared.Kind.the-variants.{NoBank}
+use Rattle.calls.specs.declared.Kind.{Kind}
+use Rattle.calls.specs.declared.Kind.the-variants.{NoBank}
 use Rattle.memory.specs.declared.Answer.{Answer}
 use Rattle.memory.specs.declared.Answer.the-variants.{Refused, Done}
 use Rattle.memory.specs.declared.Called.{Called}
 use Rattle.memory.specs.Access.{Access, read, write, flip, scrub, addressOf, parts, Got, Given, Call, memory, readRegister, writeRegister}
 use Rattle.memory.specs.Spans.{Spans, byCall, missed}
-use Rattle.errors.specs.Errors.{reported}
+use Rattle.error_registers.specs.Errors.{reported}
 use Rattle.memory.specs.Cells.{onCell}
 
 -- what a call is given and leaves: the record and the lent cells

@@ -11,8 +11,8 @@ use Rattle.ecc.specs.declared.Reading.the-variants as reading
 use Rattle.ecc.specs.declared.Loaded.{Loaded}
 use Rattle.ecc.specs.Code.{flipBit}
 use Rattle.ecc.specs.Cell.{encode, loadOf}
-use Rattle.errors.specs.declared.Kind.{Kind}
-use Rattle.errors.specs.declared.Kind.the-variants.{Clean, Corrected, Uncorrectable, Stored, Flipped}
+use Rattle.calls.specs.declared.Kind.{Kind}
+use Rattle.calls.specs.declared.Kind.the-variants.{Clean, Corrected, Uncorrectable, Stored, Flipped}
 use Rattle.memory.specs.Access.{Access, read, write, flip, scrub, Got, got}
 
 -- the answer that a reading gives

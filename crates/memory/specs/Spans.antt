@@ -7,7 +7,7 @@ use mathlib.Core.Option.{none}
 use lib.Dec.{ltb, eqb}
 use lib.ListN.{length, replicate}
 use Rattle.refusals.specs.Paper.{Declined, refuse, _else_}
-use Rattle.errors.specs.declared.Kind.the-variants.{NoBank}
+use Rattle.calls.specs.declared.Kind.the-variants.{NoBank}
 use Rattle.memory.specs.Access.{Access, read, write, flip, scrub, Got, got}
 
 -- which addresses the spans of the enabled banks hold

@@ -9,7 +9,7 @@ use crate::aim;
 use crate::aim::Target;
 use crate::bytes;
 use crate::cell;
-use errors::Kind;
+use calls::Kind;
 use refusals::Refusal;
 use refusals::Verdict;
 use registers::Registers;

@@ -16,11 +16,11 @@ ghost use Rattle.memory.specs.Calls.{readCall, writeCall, flipCall, scru
 use crate::Answer;
 use crate::bytes::copy_out;
 use crate::bytes::merged;
+use calls::Kind;
 use ecc::CellChange;
 use ecc::CellReading;
 use ecc::Reading;
 use ecc::columns::COLUMNS;
-use errors::Kind;
 use refusals::Refusal;
 
 fn kind_of(reading: Reading) -> Kind

@@ -13,7 +13,7 @@ pub use access::answer_flip;
 pub use access::answer_read;
 pub use access::answer_scrub;
 pub use access::answer_write;
-use errors::Kind;
+use calls::Kind;
 use refusals::Refusal;
 use registers::Registers;
 
@@ -35,7 +35,7 @@ pub fn settle(registers: &mut [u8; 256], answer: Answer, address: u32)
 {
     match answer {
         Answer::Refused(_) => {}
-        Answer::Done(kind) => errors::report(registers, kind, address),
+        Answer::Done(kind) => error_registers::report(registers, kind, address),
     }
 }
 

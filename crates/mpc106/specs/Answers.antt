@@ -6,8 +6,8 @@ use mathlib.Core.Option.{Option, none, some}
 use lib.ListN.{getD}
 use Rattle.refusals.specs.Paper.{Declined, Outcome, refused, given}
 use Rattle.banks.specs.declared.Place.{Place}
-use Rattle.errors.specs.declared.Kind.{Kind}
-use Rattle.errors.specs.declared.Kind.the-variants.{Clean, Corrected, Uncorrectable, Stored, NoBank, Flipped}
+use Rattle.calls.specs.declared.Kind.{Kind}
+use Rattle.calls.specs.declared.Kind.the-variants.{Clean, Corrected, Uncorrectable, Stored, NoBank, Flipped}
 
 -- a refusal is its number and 256 times the bank that it returns, 0 where it returns none; an accepted call 0x10000 and the code of what it gives
 abbrev pub numbered : {A : Type 0} → (A → ℕ) → Outcome A → ℕ

@@ -5,7 +5,7 @@ ghost use lib.ListN.{getD};
 ghost use Rattle.refusals.specs.Paper.{paper, paperVerdict};
 ghost use Rattle.memory.specs.Calls.{paperAnswer};
 ghost use Rattle.mpc106.specs.Answers.{numbered, outcomeOf, acceptedCode, kindCode, kindsCode};
-use errors::Kind;
+use calls::Kind;
 use memory::Answer;
 use refusals::Refusal;
 use refusals::Verdict;

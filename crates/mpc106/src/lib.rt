@@ -7,7 +7,7 @@ ghost use Rattle.banks.specs.Judge.{judged};
 ghost use Rattle.banks.specs.Map.{mapped};
 ghost use Rattle.banks.specs.WayBack.{back};
 ghost use Rattle.banks.specs.Alike.{compared};
-ghost use Rattle.control.specs.Calls.{readAt, writeAt};
+ghost use Rattle.register_calls.specs.Calls.{readAt, writeAt};
 ghost use Rattle.ecc.specs.Columns.{columns};
 ghost use Rattle.memory.specs.Calls.{readCall, writeCall, flipCall, scrubCall};
 ghost use Rattle.mpc106.specs.Answers.{numbered, outcomeOf, acceptedCode, byteCode, alikeCode};
@@ -22,7 +22,7 @@ use banks::Comparison;
 use banks::Mapping;
 use banks::Origin;
 use banks::Row;
-use control::Reading;
+use register_calls::Reading;
 use registers::Registers;
 
 #[no_mangle]
@@ -45,7 +45,7 @@ pub extern "C" fn mpc106_judge(registers: &[u8; 256]) -> u32
 pub extern "C" fn mpc106_register_read(registers: &[u8; 256], offset: u8) -> u32
     ensures { λ n. ⌜ n ≡ numbered byteCode (readAt (held (now (registers .entry))) offset) ⌝ }
 {
-    let reading = control::read(Registers { bytes: *registers }, offset);
+    let reading = register_calls::read(Registers { bytes: *registers }, offset);
     match reading {
         Reading::Refused(x) => answers::of_refusal(x),
         Reading::Value(v) => ACCEPTED + v as u32,
@@ -56,7 +56,7 @@ pub extern "C" fn mpc106_register_read(registers: &[u8; 256], offset: u8) -> u32
 pub extern "C" fn mpc106_register_write(registers: &mut [u8; 256], offset: u8, value: u8) -> u32
     ensures { λ n. ⌜ (n, now (registers .exit)) ≡ settled (writeAt (held (now (registers .entry))) offset value) ⌝ }
 {
-    answers::of_verdict(control::set(registers, offset, value))
+    answers::of_verdict(register_calls::set(registers, offset, value))
 }
 
 #[no_mangle]

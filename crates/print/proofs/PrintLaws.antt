@@ -10,7 +10,7 @@ use lib.Dec.{ltb}
 use lib.ListN.{length, getD, take, drop, set, length-set, length-append}
 use lib.Seq.{take-all, take-at, take-suc, take-suc-set, drop-drop, drop-append-add, drop-set-lt, take-length, set-split, sets, sets-eq}
 use borrow.Author.Tests.{ltb-true, ltb-false, lt-ltb, le-ltb, le-leb, lt-leb}
-use Rattle.ranges.proofs.RangeLaws.{byCases}
+use Rattle.basics.proofs.RangeLaws.{byCases}
 use Rattle.memory.specs.declared.Answer.{Answer}
 use Rattle.memory.specs.declared.Answer.the-variants.{Refused, Done}
 use Rattle.memory.specs.Access.{read, write, flip, scrub}

@@ -5,8 +5,8 @@ use mathlib.Core.List.{List, [], _∷_, _++_, map}
 use mathlib.Core.Option.{none, some}
 use lib.ListN.{getD}
 use Rattle.refusals.specs.Paper.{Declined, Outcome, refused, given}
-use Rattle.errors.specs.declared.Kind.{Kind}
-use Rattle.errors.specs.declared.Kind.the-variants.{Clean, Corrected, Uncorrectable, Stored, NoBank, Flipped}
+use Rattle.calls.specs.declared.Kind.{Kind}
+use Rattle.calls.specs.declared.Kind.the-variants.{Clean, Corrected, Uncorrectable, Stored, NoBank, Flipped}
 use Rattle.memory.specs.Access.{Access, read, write, flip, scrub}
 use Rattle.print.specs.Digits.{hexPair, hexPairs, decimal}
 

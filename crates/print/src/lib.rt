@@ -6,17 +6,17 @@ ghost use mathlib.Core.Bool.{cond};
 ghost use lib.Dec.{ltb};
 ghost use lib.ListN.{take};
 ghost use Rattle.refusals.specs.Paper.{paperVerdict};
-ghost use Rattle.control.specs.Calls.{paperReading};
+ghost use Rattle.register_calls.specs.Calls.{paperReading};
 ghost use Rattle.print.specs.Output.{malformedText, writtenText, readingText};
 ghost use Rattle.print.specs.Printed.{put, briefText, flippedText, dataText};
 
 mod digits;
 mod text;
 
-use control::Reading;
 use memory::Answer;
 use refusals::Refusal;
 use refusals::Verdict;
+use register_calls::Reading;
 
 // Of a malformed line.
 pub fn malformed(out: &mut [u8]) -> usize

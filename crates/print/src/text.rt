@@ -8,7 +8,7 @@ ghost use Rattle.print.specs.Output.{refusedText, acceptedText, kindLett
 ghost use Rattle.print.specs.Printed.{laid};
 use crate::digits::high_digit;
 use crate::digits::low_digit;
-use errors::Kind;
+use calls::Kind;
 
 pub(crate) fn refused(letter: u8, number: u8, out: &mut [u8]) -> usize
     requires { ⌜ 24 ≤ length (now out) ⌝ }

@@ -9,7 +9,7 @@ use registers::Registers;
 
 // The record that a write leaves. A refused write leaves it as it was, and the lines printed then show it.
 fn set(r: Registers, offset: u8, value: u8) -> Registers {
-    let written = control::write(r, offset, value);
+    let written = register_calls::write(r, offset, value);
     let next = written.registers;
     next
 }

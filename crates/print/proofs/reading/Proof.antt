@@ -1,8 +1,8 @@
 use native.Mathlib.Omega.{arith}
 use mathlib.Core.Path.{sym, ap, _∙_}
 use Rattle.print.proofs.PrintLaws.{put-none, put-is}
-use Rattle.control.specs.Calls.{paperReading}
-use Rattle.control.specs.declared.Reading.{Reading}
+use Rattle.register_calls.specs.Calls.{paperReading}
+use Rattle.register_calls.specs.declared.Reading.{Reading}
 use Rattle.print.specs.Output.{readingText, refusedText}
 use borrow.Author.Needs.{needs}
 use Rattle.print.proofs.reading.Statement.{statement}

@@ -1,6 +1,6 @@
 use native.Mathlib.Omega.{arith}
 use Rattle.ecc.specs.Columns.{columns}
-use Rattle.control.specs.Calls.{paperReading}
+use Rattle.register_calls.specs.Calls.{paperReading}
 use Rattle.print.specs.Output.{readingText}
 use Rattle.lines.proofs.LineLaws.{line-told, get-line-is}
 use borrow.Author.Needs.{needs}

@@ -4,7 +4,7 @@ use mathlib.Core.Path.{_≡_}
 use native.Mathlib.Omega.{arith}
 use lib.Dec.{ltb, eqb}
 use borrow.Author.Tests.{lt-ltb, le-ltb, ltb-false}
-use Rattle.ranges.proofs.Bools.{or-right}
+use Rattle.basics.proofs.Bools.{or-right}
 use Rattle.memory.specs.Spans.{byCount}
 use borrow.Author.Needs.{needs}
 use Rattle.memory.proofs.aim.judge_count.Statement.{statement}

@@ -1,4 +1,4 @@
-use Rattle.errors.specs.Errors.{reported}
+use Rattle.error_registers.specs.Errors.{reported}
 use mathlib.Core.Path.{sym}
 use Rattle.ecc.specs.Columns.{columns}
 use Rattle.ecc.specs.Lending.{flipAt}

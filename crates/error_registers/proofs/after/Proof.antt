@@ -1,0 +1,93 @@
+use Rattle.error_registers.specs.Errors.{reported}
+use borrow.Author.Needs.{needs}
+use Rattle.error_registers.proofs.after.Statement.{statement}
+use Rattle.error_registers.proofs.after.Tie as tie
+
+enum-told : tie.Need-enum-told
+enum-told c = search needs
+
+enum-told-2 : tie.Need-enum-told-2
+enum-told-2 c = search needs
+
+count-requires : tie.Need-count-requires
+count-requires c κs = search needs
+
+enum-told-3 : tie.Need-enum-told-3
+enum-told-3 c = search needs
+
+is-set-requires : tie.Need-is-set-requires
+is-set-requires c κs = search needs
+
+detect-requires : tie.Need-detect-requires
+detect-requires c κs = search needs
+
+returns : tie.Need-returns
+unfolding reported
+returns c = simp (c .before .before .before .enum-told3 .given .1, ← c .before .before .is-set .ensures, c .before .if1 .taken, c .detect .ensures)
+
+enum-told-4 : tie.Need-enum-told-4
+enum-told-4 c = search needs
+
+enum-told-5 : tie.Need-enum-told-5
+enum-told-5 c = search needs
+
+is-set-requires-2 : tie.Need-is-set-requires-2
+is-set-requires-2 c κs = search needs
+
+detect-requires-2 : tie.Need-detect-requires-2
+detect-requires-2 c κs = search needs
+
+returns-2 : tie.Need-returns-2
+unfolding reported
+returns-2 c = simp (c .before .before .before .enum-told5 .given .1, ← c .before .before .is-set2 .ensures, c .before .if2 .taken, c .detect2 .ensures)
+
+enum-told-6 : tie.Need-enum-told-6
+enum-told-6 c = search needs
+
+returns-3 : tie.Need-returns-3
+unfolding reported
+returns-3 c = simp (c .enum-told .given .1)
+
+returns-4 : tie.Need-returns-4
+unfolding reported
+returns-4 c = simp (c .before .enum-told2 .given .1, c .count .ensures)
+
+returns-5 : tie.Need-returns-5
+unfolding reported
+returns-5 c = simp (c .before .before .enum-told3 .given .1, ← c .before .is-set .ensures, c .if1 .left)
+
+returns-6 : tie.Need-returns-6
+unfolding reported
+returns-6 c = simp (c .enum-told4 .given .1)
+
+returns-7 : tie.Need-returns-7
+unfolding reported
+returns-7 c = simp (c .before .before .enum-told5 .given .1, ← c .before .is-set2 .ensures, c .if2 .left)
+
+returns-8 : tie.Need-returns-8
+unfolding reported
+returns-8 c = simp (c .enum-told6 .given .1)
+
+pub after-spec : {M : Type 1} → statement M
+after-spec =
+    tie.close
+    (tie.spec
+    enum-told
+    enum-told-2
+    count-requires
+    enum-told-3
+    is-set-requires
+    detect-requires
+    returns
+    enum-told-4
+    enum-told-5
+    is-set-requires-2
+    detect-requires-2
+    returns-2
+    enum-told-6
+    returns-3
+    returns-4
+    returns-5
+    returns-6
+    returns-7
+    returns-8)

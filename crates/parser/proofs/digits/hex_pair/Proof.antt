@@ -1,0 +1,47 @@
+use Prim.Native.Nat.{_+_, _*_}
+use native.Mathlib.Omega.{arith}
+use mathlib.Core.Path.{sym, _∙_}
+use Rattle.parser.proofs.DigitLaws.{both-below, below-some, pair-some, pair-none}
+use borrow.Author.Needs.{needs}
+use Rattle.parser.proofs.digits.hex_pair.Statement.{statement}
+use Rattle.parser.proofs.digits.hex_pair.Tie as tie
+
+hex-digit-requires : tie.Need-hex-digit-requires
+hex-digit-requires c κs = search needs
+
+cast-high : tie.Need-cast-high
+cast-high c = search needs
+
+hex-digit-requires-2 : tie.Need-hex-digit-requires-2
+hex-digit-requires-2 c κs = search needs
+
+cast-low : tie.Need-cast-low
+cast-low c = search needs
+
+mul-result : tie.Need-mul-result
+mul-result c = search needs
+
+add-result : tie.Need-add-result
+add-result c = search needs
+
+returns : tie.Need-returns
+returns c =
+    let h = both-below 16 (c .before .before .hex-digit .result) (c .before .hex-digit2 .result) (c .if1 .taken) in
+    pair-some (c .before .before .before .args .a) (c .before .before .before .args .b) (c .before .before .hex-digit .result) (c .before .hex-digit2 .result) (c .before .before .hex-digit .ensures) (c .before .hex-digit2 .ensures) (h .0) (h .1)
+    ∙ sym (below-some 256 (16 * c .before .before .hex-digit .result + c .before .hex-digit2 .result) (omega arith))
+
+returns-2 : tie.Need-returns-2
+returns-2 c = pair-none (c .before .before .before .args .a) (c .before .before .before .args .b) (c .before .before .hex-digit .result) (c .before .hex-digit2 .result) (c .before .before .hex-digit .ensures) (c .before .hex-digit2 .ensures) (c .if1 .left)
+
+pub hex-pair-spec : {M : Type 1} → statement M
+hex-pair-spec =
+    tie.close
+    (tie.spec
+    hex-digit-requires
+    cast-high
+    hex-digit-requires-2
+    cast-low
+    mul-result
+    add-result
+    returns
+    returns-2)

@@ -1,0 +1,60 @@
+// Digits read. What is no digit has a value out of range.
+ghost use mathlib.Core.Path.{_≡_};
+ghost use Prim.Native.Nat.{_+_, _*_, _<_, _≤_, _^_};
+ghost use mathlib.Core.List.{[], _∷_};
+ghost use lib.ListN.{length, take, drop};
+ghost use Rattle.parser.specs.Digits.{below, decimalDigit, hexDigit, hexFrom};
+
+// A decimal digit's value, or 100.
+pub(crate) fn decimal_digit(b: u8) -> u8
+    ensures { λ r. ⌜ (decimalDigit b ≡ below 10 r) × (decimalDigit b ≡ below 100 r) ⌝ }
+{
+    if (0x30 <= b) & (b <= 0x39) {
+        b - 0x30
+    } else {
+        100
+    }
+}
+
+// A hexadecimal digit's value, or 16.
+pub(crate) fn hex_digit(b: u8) -> u8
+    ensures { λ r. ⌜ hexDigit b ≡ below 16 r ⌝ }
+{
+    if (0x61 <= b) & (b <= 0x66) {
+        return b - 0x57;
+    }
+    if (0x30 <= b) & (b <= 0x39) {
+        b - 0x30
+    } else {
+        16
+    }
+}
+
+// The value of two hexadecimal digits, or 256.
+pub(crate) fn hex_pair(a: u8, b: u8) -> u32
+    ensures { λ r. ⌜ hexFrom 0 (a ∷ b ∷ []) ≡ below 256 r ⌝ }
+{
+    let high = hex_digit(a) as u32;
+    let low = hex_digit(b) as u32;
+    if (high < 16) & (low < 16) {
+        16 * high + low
+    } else {
+        256
+    }
+}
+
+// The value of the eight hexadecimal digits from place 2 of a line on, or 2^32.
+pub(crate) fn hex_address(line: &[u8]) -> u64
+    requires { ⌜ 10 ≤ length (now line) ⌝ }
+    ensures { λ r. ⌜ hexFrom 0 (take 8 (drop 2 (now (line .entry)))) ≡ below (2 ^ 32) r ⌝ }
+{
+    let p = hex_pair(line[2], line[3]) as u64;
+    let q = hex_pair(line[4], line[5]) as u64;
+    let r = hex_pair(line[6], line[7]) as u64;
+    let s = hex_pair(line[8], line[9]) as u64;
+    if (p < 256) & (q < 256) & (r < 256) & (s < 256) {
+        256 * (256 * (256 * p + q) + r) + s
+    } else {
+        0x100000000
+    }
+}

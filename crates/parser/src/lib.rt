@@ -1,0 +1,67 @@
+// The line format of the program `busline`: what a line asks for.
+ghost use mathlib.Core.Path.{_≡_};
+ghost use Prim.Native.Nat.{_≤_};
+ghost use lib.ListN.{length, drop, getD};
+ghost use Rattle.parser.specs.Format.{fields, byLetter, parse};
+ghost use Rattle.parser.specs.Parsed.{meant};
+
+mod bytes;
+mod digits;
+mod memory_lines;
+mod register_lines;
+mod request;
+
+use memory_lines::parse_flip;
+use memory_lines::parse_read;
+use memory_lines::parse_scrub;
+use memory_lines::parse_write;
+use register_lines::parse_get;
+use register_lines::parse_set;
+pub use request::Parsed;
+pub use request::Request;
+use request::bare;
+use request::malformed;
+
+// By the letter, of a line whose second byte is a comma.
+fn by_letter(line: &[u8]) -> Parsed
+    requires { ⌜ 2 ≤ length (now line) ⌝ }
+    ensures { λ r. ⌜ (meant r ≡ byLetter (getD (now (line .entry)) 0 0) (fields (drop 2 (now (line .entry))))) × (r .count ≤ length (r .bytes)) ⌝ }
+{
+    let letter = line[0];
+    if letter == 0x63 {
+        return bare(parse_set(line));
+    }
+    if letter == 0x67 {
+        return bare(parse_get(line));
+    }
+    if letter == 0x77 {
+        return parse_write(line);
+    }
+    if letter == 0x72 {
+        return bare(parse_read(line));
+    }
+    if letter == 0x66 {
+        return bare(parse_flip(line));
+    }
+    if letter == 0x73 {
+        return bare(parse_scrub(line));
+    }
+    malformed()
+}
+
+// What a line asks for.
+pub fn parse(line: &[u8]) -> Parsed
+    ensures { λ r. ⌜ (meant r ≡ parse (now (line .entry))) × (r .count ≤ length (r .bytes)) ⌝ }
+{
+    if line.len() < 2 {
+        return malformed();
+    }
+    if 40 < line.len() {
+        return malformed();
+    }
+    let comma = line[1];
+    if comma != 0x2c {
+        return malformed();
+    }
+    by_letter(line)
+}

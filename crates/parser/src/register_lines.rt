@@ -1,0 +1,51 @@
+// Lines that ask for a register call, by the places of their fields.
+ghost use mathlib.Core.Path.{_≡_};
+ghost use Prim.Native.Nat.{_≤_};
+ghost use mathlib.Core.List.{[]};
+ghost use lib.ListN.{length, drop};
+ghost use Rattle.memory.specs.Access.{readRegister, writeRegister};
+ghost use Rattle.parser.specs.Digits.{hexField};
+ghost use Rattle.parser.specs.Format.{fields, one, two};
+ghost use Rattle.parser.specs.Parsed.{asked};
+use crate::digits::hex_pair;
+use crate::request::Request;
+
+// `c,offset,value`
+pub(crate) fn parse_set(line: &[u8]) -> Request
+    requires { ⌜ 2 ≤ length (now line) ⌝ }
+    ensures { λ r. ⌜ asked r [] ≡ two (hexField 2) (hexField 2) writeRegister (fields (drop 2 (now (line .entry)))) ⌝ }
+{
+    let n = line.len();
+    if n != 7 {
+        return Request::Malformed;
+    }
+    let comma = line[4];
+    if comma != 0x2c {
+        return Request::Malformed;
+    }
+    let offset = hex_pair(line[2], line[3]);
+    let value = hex_pair(line[5], line[6]);
+    if 255 < offset {
+        return Request::Malformed;
+    }
+    if 255 < value {
+        return Request::Malformed;
+    }
+    Request::SetRegister(offset as u8, value as u8)
+}
+
+// `g,offset`
+pub(crate) fn parse_get(line: &[u8]) -> Request
+    requires { ⌜ 2 ≤ length (now line) ⌝ }
+    ensures { λ r. ⌜ asked r [] ≡ one (hexField 2) readRegister (fields (drop 2 (now (line .entry)))) ⌝ }
+{
+    let n = line.len();
+    if n != 4 {
+        return Request::Malformed;
+    }
+    let offset = hex_pair(line[2], line[3]);
+    if 255 < offset {
+        return Request::Malformed;
+    }
+    Request::GetRegister(offset as u8)
+}

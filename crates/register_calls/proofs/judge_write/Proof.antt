@@ -1,0 +1,63 @@
+use Rattle.register_calls.specs.Calls.{declined, switchesOn}
+use borrow.Author.Needs.{needs}
+use Rattle.register_calls.proofs.judge_write.Statement.{statement}
+use Rattle.register_calls.proofs.judge_write.Tie as tie
+
+is-listed-requires : tie.Need-is-listed-requires
+is-listed-requires c κs = search needs
+
+returns : tie.Need-returns
+unfolding declined
+returns c = simp (← c .before .is-listed .ensures, c .if1 .taken)
+
+is-read-only-requires : tie.Need-is-read-only-requires
+is-read-only-requires c κs = search needs
+
+returns-2 : tie.Need-returns-2
+unfolding declined
+returns-2 c = simp (c .if2 .taken, ← c .before .is-read-only .ensures, c .before .before .if1 .left, ← c .before .before .before .is-listed .ensures)
+
+is-bad-value-requires : tie.Need-is-bad-value-requires
+is-bad-value-requires c κs = search needs
+
+returns-3 : tie.Need-returns-3
+unfolding declined
+returns-3 c = simp (c .if3 .taken, ← c .before .is-bad-value .ensures, c .before .before .if2 .left, ← c .before .before .before .is-read-only .ensures, c .before .before .before .before .if1 .left, ← c .before .before .before .before .before .is-listed .ensures)
+
+is-on-requires : tie.Need-is-on-requires
+is-on-requires c κs = search needs
+
+is-locked-requires : tie.Need-is-locked-requires
+is-locked-requires c κs = search needs
+
+returns-4 : tie.Need-returns-4
+unfolding declined
+returns-4 c = simp (c .if4 .taken, ← c .before .is-locked .ensures, ← c .before .before .is-on .ensures, c .before .before .before .if3 .left, ← c .before .before .before .before .is-bad-value .ensures, c .before .before .before .before .before .if2 .left, ← c .before .before .before .before .before .before .is-read-only .ensures, c .before .before .before .before .before .before .before .if1 .left, ← c .before .before .before .before .before .before .before .before .is-listed .ensures)
+
+judge-requires : tie.Need-judge-requires
+judge-requires c κs = search needs
+
+returns-5 : tie.Need-returns-5
+unfolding declined switchesOn
+returns-5 c = simp (c .judge .ensures, c .before .if5 .taken, c .before .before .if4 .left, ← c .before .before .before .is-locked .ensures, ← c .before .before .before .before .is-on .ensures, c .before .before .before .before .before .if3 .left, ← c .before .before .before .before .before .before .is-bad-value .ensures, c .before .before .before .before .before .before .before .if2 .left, ← c .before .before .before .before .before .before .before .before .is-read-only .ensures, c .before .before .before .before .before .before .before .before .before .if1 .left, ← c .before .before .before .before .before .before .before .before .before .before .is-listed .ensures)
+
+returns-6 : tie.Need-returns-6
+unfolding declined switchesOn
+returns-6 c = simp (c .if5 .left, c .before .if4 .left, ← c .before .before .is-locked .ensures, ← c .before .before .before .is-on .ensures, c .before .before .before .before .if3 .left, ← c .before .before .before .before .before .is-bad-value .ensures, c .before .before .before .before .before .before .if2 .left, ← c .before .before .before .before .before .before .before .is-read-only .ensures, c .before .before .before .before .before .before .before .before .if1 .left, ← c .before .before .before .before .before .before .before .before .before .is-listed .ensures)
+
+pub judge-write-spec : {M : Type 1} → statement M
+judge-write-spec =
+    tie.close
+    (tie.spec
+    is-listed-requires
+    returns
+    is-read-only-requires
+    returns-2
+    is-bad-value-requires
+    returns-3
+    is-on-requires
+    is-locked-requires
+    returns-4
+    judge-requires
+    returns-5
+    returns-6)

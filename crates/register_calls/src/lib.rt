@@ -1,0 +1,122 @@
+// Reads and writes of registers.
+ghost use mathlib.Core.Path.{_≡_};
+ghost use Rattle.refusals.specs.Paper.{paperVerdict};
+ghost use Rattle.register_calls.specs.Calls.{listed, readOnly, badValue, locked, clearing, readAt, declined, newByte, writeAt, paperReading, paperWritten};
+use refusals::Refusal;
+use refusals::Verdict;
+use registers::Registers;
+
+pub enum Reading {
+    Refused(Refusal),
+    Value(u8),
+}
+
+pub struct Written {
+    pub registers: Registers,
+    pub verdict: Verdict,
+}
+
+fn is_listed(o: u8) -> bool
+    ensures { λ r. ⌜ r ≡ listed o ⌝ }
+{
+    (0x80 <= o) & (o <= 0xa0)
+        | (0xb8 <= o) & (o <= 0xb9)
+        | (0xc0 <= o) & (o <= 0xc1)
+        | (0xc4 <= o) & (o <= 0xc5)
+        | (0xc8 <= o) & (o <= 0xcb)
+        | (0xf0 <= o) & (o <= 0xf2)
+}
+
+fn is_read_only(o: u8) -> bool
+    ensures { λ r. ⌜ r ≡ readOnly o ⌝ }
+{
+    (0xc8 <= o) & (o <= 0xcb)
+}
+
+fn is_bad_value(o: u8, v: u8) -> bool
+    ensures { λ r. ⌜ r ≡ badValue o v ⌝ }
+{
+    ((0x88 <= o) & (o <= 0x8f) | (0x98 <= o) & (o <= 0x9f)) & (3 < v)
+        | (o == Registers::MEMORY) & (!(v == 0) & !(v == 8))
+}
+
+fn is_locked(o: u8) -> bool
+    ensures { λ r. ⌜ r ≡ locked o ⌝ }
+{
+    (0x80 <= o) & (o <= 0xa0) | (0xf0 <= o) & (o <= 0xf1)
+}
+
+fn is_clearing(o: u8) -> bool
+    ensures { λ r. ⌜ r ≡ clearing o ⌝ }
+{
+    (o == Registers::ERROR_DETECTION_1) | (o == Registers::ERROR_DETECTION_2)
+}
+
+pub fn read(r: Registers, offset: u8) -> Reading
+    ensures { λ x. ⌜ paperReading x ≡ readAt r offset ⌝ }
+{
+    if is_listed(offset) {
+        Reading::Value(r.byte(offset))
+    } else {
+        Reading::Refused(Refusal::UnlistedOffset)
+    }
+}
+
+fn judge_write(r: Registers, o: u8, v: u8) -> Verdict
+    ensures { λ x. ⌜ paperVerdict x ≡ declined r o v ⌝ }
+{
+    if !is_listed(o) {
+        return Verdict::Refused(Refusal::UnlistedOffset);
+    }
+    if is_read_only(o) {
+        return Verdict::Refused(Refusal::ReadOnly);
+    }
+    if is_bad_value(o, v) {
+        return Verdict::Refused(Refusal::ValueOutOfRange);
+    }
+    let on = banks::is_on(r);
+    if is_locked(o) & on {
+        return Verdict::Refused(Refusal::LockedWhileOn);
+    }
+    if (o == Registers::MEMORY) & (v == 8) & !on {
+        return banks::judge(r);
+    }
+    Verdict::Accepted
+}
+
+// The byte that an accepted write leaves.
+fn new_byte(r: Registers, o: u8, v: u8) -> u8
+    ensures { λ x. ⌜ x ≡ newByte r o v ⌝ }
+{
+    if is_clearing(o) {
+        r.byte(o) & (255 - v)
+    } else {
+        v
+    }
+}
+
+// A write in place: one byte is stored, or none.
+pub fn set(registers: &mut [u8; 256], offset: u8, value: u8) -> Verdict
+    ensures { λ v. ⌜ (paperVerdict v, record { bytes = now (registers .exit) }) ≡ writeAt (record { bytes = now (registers .entry) }) offset value ⌝ }
+{
+    let verdict = judge_write(Registers { bytes: *registers }, offset, value);
+    match verdict {
+        Verdict::Accepted => {
+            let byte = new_byte(Registers { bytes: *registers }, offset, value);
+            registers[offset as usize] = byte;
+            Verdict::Accepted
+        }
+        Verdict::Refused(x) => Verdict::Refused(x),
+    }
+}
+
+pub fn write(r: Registers, offset: u8, value: u8) -> Written
+    ensures { λ w. ⌜ paperWritten w ≡ writeAt r offset value ⌝ }
+{
+    let mut bytes = r.bytes;
+    let verdict = set(&mut bytes, offset, value);
+    Written {
+        registers: Registers { bytes: bytes },
+        verdict: verdict,
+    }
+}
