@@ -1,95 +1,97 @@
 /*
  * Switches on two banks (bank 0: megabytes 0 to 1, 9 row bits; bank 1: megabytes 2 to 4, 10 row bits),
- * writes, turns bits over, reads, and prints what it got.
+ * writes, inverts bits, reads, and prints the answers.
  *
- *   rt staticlib mpc106
- *   gcc -Iinclude examples/switch_on.c target/staticlib/libmpc106.a -o switch_on
+ *   tools/install "$HOME/.local"
+ *   export PKG_CONFIG_PATH=$HOME/.local/lib/pkgconfig
+ *   gcc $(pkg-config --cflags mpc106) examples/switch_on.c $(pkg-config --libs mpc106) -o switch_on
  */
 #include <stdio.h>
 #include <stdlib.h>
 
-#include "mpc106.h"
+#include <mpc106.h>
 
-/* Bank 0 numbers 2^18 doublewords, and bank 1 2^19. */
-#define CELLS (((size_t)1 << 18) + ((size_t)1 << 19))
+static mpc106_record record;
+static mpc106_memory memory = {&record, NULL, 0};
 
-static uint8_t registers[MPC106_RECORD_BYTES];
-static uint8_t cells[CELLS * MPC106_CELL_BYTES];
-
-static const char *kind_name(uint32_t kind)
+static const char *kind_name(uint32_t part)
 {
-    static const char *const names[] = {"clean", "corrected", "uncorrectable", "stored", "no bank", "flipped"};
-    return kind < sizeof names / sizeof names[0] ? names[kind] : "unknown";
+    switch (MPC106_KIND(part)) {
+    case MPC106_CLEAN: return "clean";
+    case MPC106_CORRECTED: return "corrected";
+    case MPC106_UNCORRECTABLE: return "uncorrectable";
+    case MPC106_STORED: return "stored";
+    case MPC106_NO_BANK: return "no bank";
+    default: return "unknown";
+    }
 }
 
-static void print_refusal(uint32_t answer)
+/* Prints why a call was refused. True if it was. */
+static int print_refusal(uint32_t result)
 {
-    uint32_t number = MPC106_REFUSAL(answer);
-    printf("refusal %u", number);
+    uint32_t number = MPC106_REFUSAL(result);
+    if (result == 0)
+        return 0;
+    printf("refusal %u, %s", number, mpc106_refusal_text(result));
     if (MPC106_START_ABOVE_END <= number && number <= MPC106_OVERLAP)
-        printf(" of bank %u", MPC106_REFUSED_BANK(answer));
+        printf(" (bank %u)", MPC106_REFUSED_BANK(result));
     printf("\n");
+    return 1;
 }
 
-static void print_answer(const char *call, uint32_t address, uint32_t answer)
+static void print_answer(const char *call, uint32_t address, uint32_t result, const mpc106_answer *answer)
 {
     printf("%s %08x: ", call, address);
-    if (MPC106_IS_ACCEPTED(answer))
-        printf("%s\n", kind_name(MPC106_GIVEN(answer)));
-    else
-        print_refusal(answer);
+    if (!print_refusal(result))
+        printf("%s\n", kind_name(answer->part[0]));
 }
 
-static void set_register(uint8_t offset, uint8_t value)
+static void set_register(uint32_t offset, uint8_t value)
 {
-    uint32_t answer = mpc106_register_write(registers, offset, value);
+    uint32_t result = mpc106_register_write(&record, offset, value);
     printf("register %02x = %02x: ", offset, value);
-    if (MPC106_IS_ACCEPTED(answer))
+    if (!print_refusal(result))
         printf("accepted\n");
-    else
-        print_refusal(answer);
 }
 
-static void show_register(uint8_t offset)
+static void show_register(uint32_t offset)
 {
-    uint32_t answer = mpc106_register_read(registers, offset);
+    uint8_t value;
+    uint32_t result = mpc106_register_read(&record, offset, &value);
     printf("register %02x: ", offset);
-    if (MPC106_IS_ACCEPTED(answer))
-        printf("%02x\n", MPC106_GIVEN(answer));
-    else
-        print_refusal(answer);
+    if (!print_refusal(result))
+        printf("%02x\n", value);
 }
 
 static void show_place(uint32_t address)
 {
-    uint32_t place[4];
-    uint32_t answer = mpc106_map(registers, address, place);
+    mpc106_place place;
+    uint32_t result = mpc106_map(&record, address, &place);
     printf("map %08x: ", address);
-    if (!MPC106_IS_ACCEPTED(answer))
-        print_refusal(answer);
-    else if (MPC106_GIVEN(answer) == MPC106_NO_BANK)
-        printf("no bank\n");
+    if (print_refusal(result))
+        return;
+    if (place.found)
+        printf("bank %u, row %u, column %u, cell %u\n", place.bank, place.row, place.column, place.cell);
     else
-        printf("bank %u, row %u, column %u, cell %u\n", place[0], place[1], place[2], place[3]);
+        printf("no bank\n");
 }
 
-static void show_address(uint8_t bank, uint32_t row, uint32_t column)
+static void show_address(uint32_t bank, uint32_t row, uint32_t column)
 {
-    uint32_t address[1];
-    uint32_t answer = mpc106_way_back(registers, bank, row, column, address);
+    uint32_t address;
+    uint32_t result = mpc106_way_back(&record, bank, row, column, &address);
     printf("way back bank %u, row %u, column %u: ", bank, row, column);
-    if (MPC106_IS_ACCEPTED(answer))
-        printf("%08x\n", address[0]);
-    else
-        print_refusal(answer);
+    if (!print_refusal(result))
+        printf("%08x\n", address);
 }
 
 static void read_bytes(uint32_t address, size_t count)
 {
     uint8_t buffer[8];
-    uint32_t answer = mpc106_read(registers, cells, sizeof cells, address, buffer, count);
-    print_answer("read", address, answer);
-    if (!MPC106_IS_ACCEPTED(answer))
+    mpc106_answer answer;
+    uint32_t result = mpc106_read(&memory, address, buffer, count, &answer);
+    print_answer("read", address, result, &answer);
+    if (result != 0)
         return;
     for (size_t i = 0; i < count; i++)
         printf(" %02x", buffer[i]);
@@ -98,22 +100,29 @@ static void read_bytes(uint32_t address, size_t count)
 
 static void write_bytes(uint32_t address, const uint8_t *bytes, size_t count)
 {
-    print_answer("write", address, mpc106_write(registers, cells, sizeof cells, address, bytes, count));
+    mpc106_answer answer;
+    uint32_t result = mpc106_write(&memory, address, bytes, count, &answer);
+    print_answer("write", address, result, &answer);
 }
 
-static void flip(uint32_t address, uint8_t bit)
+static void flip(uint32_t address, uint32_t bit)
 {
-    print_answer("flip", address, mpc106_flip(registers, cells, sizeof cells, address, bit));
+    uint32_t result = mpc106_flip(&memory, address, bit);
+    printf("flip %08x: ", address);
+    if (!print_refusal(result))
+        printf("flipped\n");
 }
 
 static void scrub(uint32_t address)
 {
-    print_answer("scrub", address, mpc106_scrub(registers, cells, sizeof cells, address));
+    mpc106_answer answer;
+    uint32_t result = mpc106_scrub(&memory, address, &answer);
+    print_answer("scrub", address, result, &answer);
 }
 
 static void switch_on(void)
 {
-    mpc106_fresh(registers);
+    mpc106_fresh(&record);
     set_register(MPC106_END, 1);               /* bank 0: last megabyte */
     set_register(MPC106_START + 1, 2);         /* bank 1: start */
     set_register(MPC106_END + 1, 1);           /* and an end below it */
@@ -124,6 +133,20 @@ static void switch_on(void)
     set_register(MPC106_MEMORY, 8);            /* memory on */
     set_register(MPC106_BANK_ENABLE, 0x01);    /* refused: memory is on */
     set_register(MPC106_ERROR_ENABLE_1, 0x20); /* report addresses without a bank */
+}
+
+/* As many cells as the set-up needs, all zero. */
+static int lend_cells(void)
+{
+    uint32_t count;
+    uint32_t result = mpc106_cell_count(&record, &count);
+    printf("cells: ");
+    if (print_refusal(result))
+        return 0;
+    printf("%u\n", count);
+    memory.cells = calloc(count, MPC106_CELL_BYTES);
+    memory.cells_length = (size_t)count * MPC106_CELL_BYTES;
+    return memory.cells != NULL;
 }
 
 static void map_both_ways(void)
@@ -164,11 +187,23 @@ static void leave_the_banks(void)
     flip(0x00001008, 72);
 }
 
+/* Numbers that would be in range if they were cut to a byte. */
+static void go_out_of_range(void)
+{
+    flip(0x00001008, 261);
+    show_register(0x180);
+    show_address(256, 0, 0);
+}
+
 int main(void)
 {
     switch_on();
+    if (!lend_cells())
+        return 1;
     map_both_ways();
     turn_bits_over();
     leave_the_banks();
+    go_out_of_range();
+    free(memory.cells);
     return 0;
 }

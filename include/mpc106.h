@@ -1,19 +1,45 @@
 /*
  * mpc106.h - the memory side of the MPC106: registers, banks, cells and correction.
  *
- * Link with libmpc106.a, which `rt staticlib mpc106` writes to target/staticlib/ (x86-64 Linux).
- * The library keeps nothing of its own and takes no memory: all state is in what the caller lends.
+ * Link with libmpc106.a (x86-64 Linux). `tools/install PREFIX` puts this header, the archive and a pkg-config
+ * file in place; `rt staticlib mpc106` writes the archive alone, to target/staticlib/.
+ * The library keeps no state and allocates no memory: all state is in what the caller lends.
  * So calls that are lent different records and cells may run in different threads.
- * No call fails on any input. What it cannot do it refuses, by a number.
  *
- *   record   256 bytes, one for each register offset. Start with mpc106_fresh. A record made by hand is
- *            judged again at each call (refusal 5); of its extended bytes only bits 0 and 1 count.
+ *   mpc106_record record;
+ *   mpc106_fresh(&record);                                    all registers zero, memory off
+ *   mpc106_register_write(&record, MPC106_END, 1);            bank 0 ends at megabyte 1,
+ *   mpc106_register_write(&record, MPC106_BANK_ENABLE, 1);    is enabled,
+ *   mpc106_register_write(&record, MPC106_MEMORY, 8);         and memory is switched on
+ *   uint32_t count;
+ *   mpc106_cell_count(&record, &count);
+ *   uint8_t *cells = calloc(count, MPC106_CELL_BYTES);
+ *   mpc106_memory memory = {&record, cells, (size_t)count * MPC106_CELL_BYTES};
+ *   mpc106_answer answer;
+ *   uint8_t buffer[8];
+ *   if (mpc106_read(&memory, 0x1008, buffer, 8, &answer) == 0 && MPC106_KIND(answer.part[0]) == MPC106_CLEAN) ..
+ *
+ * RESULTS
+ *   A call that is accepted returns 0, and puts what it gives where its last pointer points.
+ *   A call that is refused returns why: the number of the refusal in the low byte, MPC106_REFUSAL(result), and in
+ *   the next byte the bank that refusals 12 to 14 are about, MPC106_REFUSED_BANK(result), or 0 for any other.
+ *   mpc106_refusal_text(result) says it in words.
+ *   No call fails in any other way, on any input. A REFUSED CALL LEAVES EVERYTHING AS IT WAS: record, cells,
+ *   buffer, and what its other pointers point to.
+ *   If two refusals apply, the lower number is returned, except that 10 comes before 9, and that switching
+ *   on looks for 11; then for 12 and 13, bank by bank upward; then for 14, at the lowest such bank.
+ *
+ * WHAT IS LENT
+ *   record   an mpc106_record. Make it with mpc106_fresh; it may be copied, and stored as a save state and loaded
+ *            again, just as it is. Its bytes may also be set by hand, since each call judges the record again
+ *            (refusal 5); of its extended bytes only bits 0 and 1 count. Later versions may add members to it.
  *   cells    the memory's own bytes, nine for each doubleword of 8 bytes: eight data bytes, then the
  *            check byte. Cell k starts at 9 * k; mpc106_map gives the cell of an address. Nine zero
- *            bytes are a valid cell that holds zeros. Length in bytes.
- *
- * Pointers must point at as many bytes or numbers as each call says, and what a call may change must
- * not overlap anything else that the call is lent. A pointer whose length is 0 must still not be null.
+ *            bytes are a valid cell that holds zeros. mpc106_cell_count says how many a set-up needs. If fewer
+ *            are lent, calls that need a higher cell get refusal 9. Bytes behind the last whole cell are
+ *            ignored.
+ *   Pointers must not be null, not even with a length of 0, and what a call may change must not overlap anything
+ *   else that the call is lent.
  *
  * REGISTERS
  *   Offsets are hexadecimal; n is a bank, 0 to 7; bit 0 is the lowest. A megabyte is 2^20 bytes.
@@ -26,34 +52,21 @@
  *   B8       single-bit counter: each MPC106_CORRECTED raises it by one, stopping at 255
  *   B9       single-bit trigger
  *   C0       error enables 1: bit 5 lets C1 bit 5 be set, and bit 2 C1 bit 2; its other bits do nothing
- *   C1       error detection 1: bit 5, no bank held an address; bit 2, B8 rose and was then equal to B9.
- *            Writing a 1 clears that bit
+ *   C1       error detection 1: bit 5, a read, write or scrub found no bank; bit 2, B8 rose and was then
+ *            equal to B9. Writing a 1 clears that bit
  *   C4       error enables 2: bit 3 lets C5 bit 3 be set; its other bits do nothing
  *   C5       error detection 2: bit 3, a doubleword was uncorrectable. Writing a 1 clears that bit
- *   C8..CB   error address, lowest byte first, read only: the address of the last call that set a bit of
- *            C1 or C5 while both were zero
- *   F0, F1   row codes, two bits a bank: banks 0 to 3 from the low end of F0, 4 to 7 of F1. Codes
+ *   C8..CB   error address, lowest byte first, read only: the address of the last call that set a bit of C1 or C5
+ *            while all bits of both were zero, as the call was given it and not rounded down to its doubleword
+ *   F0, F1   row codes, two bits for each bank: banks 0 to 3 from the low end of F0, 4 to 7 of F1. Codes
  *            0, 1, 2, 3 mean 9, 10, 11, 12 row bits
  *   F2       bit 3 switches memory on: write 8 for on, 0 for off, and no other value
  *
  *   80 to A0, F0 and F1 can be written only while memory is off. No other offset has a register.
  *
- * HOW MANY CELLS
- *   An enabled bank with R row bits has 2^(R+C) cells, where C, its column bits, is the smallest of
- *   8, 9, .., R with 2^(R+C+3) >= its length in bytes. The memory needs the sum of this over the enabled
- *   banks, so lend 9 bytes times that sum; it is never above 2^27 cells. With fewer lent, reads, writes,
- *   flips and scrubs of a higher cell get refusal 9. Bytes past the last whole cell are not looked at.
- *   Say bank 0 has megabytes 0 to 1 with 9 row bits, and bank 1 megabytes 2 to 4 with 10: they have
- *   2^(9+9) + 2^(10+9) = 786432 cells, and take 7077888 bytes.
- *
- * ANSWERS
- *   below MPC106_ACCEPTED   refused: the number of the refusal in the low byte (1 to 17), and in the
- *                           next byte the bank that refusals 12 to 14 return (0 with any other).
- *   from MPC106_ACCEPTED    accepted: what the call gives is answer - MPC106_ACCEPTED.
- *
- * A REFUSED CALL LEAVES EVERYTHING AS IT WAS: record, cells, buffer, place and address.
- * Where two refusals apply the lower number is given, except that 10 comes before 9, and that switching
- * on gives 11; then 12 and 13 bank by bank upward; then 14 at the lowest such bank.
+ * OTHER LANGUAGES
+ *   The calls here are short inline functions over the functions mpc106_raw_*, which are what the archive contains
+ *   and what is proved. Those take only bytes and numbers, and any language that can call C can call them.
  */
 #ifndef MPC106_H
 #define MPC106_H
@@ -61,159 +74,290 @@
 #include <stddef.h>
 #include <stdint.h>
 
+/* The version of this interface: a program that compiles with one compiles with every later one of the same major version. */
+#define MPC106_VERSION_MAJOR 1
+#define MPC106_VERSION_MINOR 0
+#define MPC106_VERSION_PATCH 0
+#define MPC106_VERSION (MPC106_VERSION_MAJOR * 10000 + MPC106_VERSION_MINOR * 100 + MPC106_VERSION_PATCH)
+
+/* The number of bytes of a cell, and the most parts that an answer has. */
+#define MPC106_CELL_BYTES 9
+#define MPC106_PARTS 4
+
+/* The offsets of the registers; the table above says what each holds. */
+#define MPC106_START 0x80u /* of bank 0; that of bank n is n further on, and so for the next three */
+#define MPC106_START_EXTENDED 0x88u
+#define MPC106_END 0x90u
+#define MPC106_END_EXTENDED 0x98u
+#define MPC106_BANK_ENABLE 0xa0u
+#define MPC106_SINGLE_BIT_COUNTER 0xb8u
+#define MPC106_SINGLE_BIT_TRIGGER 0xb9u
+#define MPC106_ERROR_ENABLE_1 0xc0u
+#define MPC106_ERROR_DETECTION_1 0xc1u
+#define MPC106_ERROR_ENABLE_2 0xc4u
+#define MPC106_ERROR_DETECTION_2 0xc5u
+#define MPC106_ERROR_ADDRESS 0xc8u /* the lowest byte; three more follow */
+#define MPC106_ROW_CODES 0xf0u     /* of banks 0 to 3; those of 4 to 7 are at the next offset */
+#define MPC106_MEMORY 0xf2u
+
+/* What the result of a refused call says. */
+#define MPC106_REFUSAL(result) ((result) & 0xffu)
+#define MPC106_REFUSED_BANK(result) (((result) >> 8) & 0xffu)
+
+/* The refusals. */
+enum mpc106_refusal {
+    MPC106_UNLISTED_OFFSET = 1,         /* the offset has no register */
+    MPC106_READ_ONLY = 2,               /* a write at C8 to CB */
+    MPC106_VALUE_OUT_OF_RANGE = 3,      /* an extended byte above 3; F2 neither 0 nor 8 */
+    MPC106_LOCKED_WHILE_ON = 4,         /* a write at 80 to A0, F0 or F1 while memory is on */
+    MPC106_NOT_READY = 5,               /* memory is off, or the record would not be switched on */
+    MPC106_COUNT_OUT_OF_RANGE = 6,      /* a count of 0 or above 8 */
+    MPC106_CROSSES_DOUBLEWORD = 7,      /* the access leaves its doubleword */
+    MPC106_BIT_OUT_OF_RANGE = 8,        /* a flip of a bit above 71 */
+    MPC106_NOT_LENT = 9,                /* the cell is not wholly within the lent cells */
+    MPC106_FLIP_WITHOUT_BANK = 10,      /* a flip where no bank holds the address */
+    MPC106_NO_BANK_ENABLED = 11,        /* switching on with no bank enabled */
+    MPC106_START_ABOVE_END = 12,        /* with the bank: it starts above its end */
+    MPC106_TOO_LONG = 13,               /* with the bank: it is too long for its rows */
+    MPC106_OVERLAP = 14,                /* with the bank: its span meets a lower enabled bank's */
+    MPC106_BANK_OFF = 15,               /* the way back of a bank above 7, or of one that is off */
+    MPC106_ROW_OR_COLUMN_TOO_LARGE = 16, /* the way back of a row or column that the bank does not have */
+    MPC106_NO_ADDRESS = 17              /* no address has that bank, row and column */
+};
+
+/* The kind of one part of an accepted read, write or scrub. 0 is no kind. */
+enum mpc106_kind {
+    MPC106_CLEAN = 1,         /* nothing was wrong */
+    MPC106_CORRECTED = 2,     /* one bit was wrong and was corrected */
+    MPC106_UNCORRECTABLE = 3, /* more bits were wrong than can be corrected */
+    MPC106_STORED = 4,        /* a write of 8 bytes */
+    MPC106_NO_BANK = 5        /* no enabled bank holds the address */
+};
+
+/* The kind that a part of an answer holds. Later versions may put more into a part, so do not compare whole parts. */
+#define MPC106_KIND(part) ((part) & 0xffu)
+
+/* The register record: a byte for each offset. */
+typedef struct mpc106_record {
+    uint8_t registers[256];
+} mpc106_record;
+
+/* What is lent to a memory call: the record, and the cells with their length in bytes. */
+typedef struct mpc106_memory {
+    mpc106_record *record;
+    uint8_t *cells;
+    size_t cells_length;
+} mpc106_memory;
+
+/* What an accepted read, write or scrub gives: the number of its parts, at present 1, and the parts; unused ones are 0. */
+typedef struct mpc106_answer {
+    uint32_t count;
+    uint32_t part[MPC106_PARTS];
+} mpc106_answer;
+
+/* Where a doubleword is kept. */
+typedef struct mpc106_place {
+    uint32_t found; /* 1, or 0 if no enabled bank holds the address; then the others are 0 too */
+    uint32_t bank;
+    uint32_t row;
+    uint32_t column;
+    uint32_t cell; /* the number of the cell in the memory: it starts at byte 9 * cell of the lent cells */
+} mpc106_place;
+
+/*
+ * What the archive contains. Each mpc106_raw_NAME does what mpc106_NAME below does, and returns the same. Its parameters:
+ *   registers, first, second       the 256 bytes of a record
+ *   cells, cells_length            the lent cells, and how many bytes they have
+ *   buffer or bytes, its length    of a read or write; the length is the count of bytes
+ *   answer                         five numbers: the count, then four parts
+ *   place                          five numbers: found, bank, row, column, cell
+ *   count, value, address, alike   the one number that the call gives
+ */
 #ifdef __cplusplus
 extern "C" {
 #endif
-
-/* The bytes of a record, and those of a cell. */
-#define MPC106_RECORD_BYTES 256
-#define MPC106_CELL_BYTES 9
-
-/* The offsets of the registers; the table above says what each holds. */
-#define MPC106_START 0x80 /* of bank 0; bank n at n more, and so the next three */
-#define MPC106_START_EXTENDED 0x88
-#define MPC106_END 0x90
-#define MPC106_END_EXTENDED 0x98
-#define MPC106_BANK_ENABLE 0xa0
-#define MPC106_SINGLE_BIT_COUNTER 0xb8
-#define MPC106_SINGLE_BIT_TRIGGER 0xb9
-#define MPC106_ERROR_ENABLE_1 0xc0
-#define MPC106_ERROR_DETECTION_1 0xc1
-#define MPC106_ERROR_ENABLE_2 0xc4
-#define MPC106_ERROR_DETECTION_2 0xc5
-#define MPC106_ERROR_ADDRESS 0xc8 /* the lowest byte; three more follow */
-#define MPC106_ROW_CODES 0xf0     /* of banks 0 to 3; those of 4 to 7 are at the next offset */
-#define MPC106_MEMORY 0xf2
-
-/* What an answer says. */
-#define MPC106_ACCEPTED 0x10000u
-#define MPC106_IS_ACCEPTED(answer) ((answer) >= MPC106_ACCEPTED)
-#define MPC106_GIVEN(answer) ((answer) - MPC106_ACCEPTED)
-#define MPC106_REFUSAL(answer) ((answer) & 0xffu)
-#define MPC106_REFUSED_BANK(answer) (((answer) >> 8) & 0xffu)
-
-/* What an accepted read, write, flip or scrub gives. mpc106_map gives MPC106_NO_BANK too. */
-#define MPC106_CLEAN 0u
-#define MPC106_CORRECTED 1u     /* one bit was wrong, and was put right */
-#define MPC106_UNCORRECTABLE 2u /* more bits were wrong than can be put right */
-#define MPC106_STORED 3u        /* a write of 8 bytes */
-#define MPC106_NO_BANK 4u       /* no enabled bank holds the address */
-#define MPC106_FLIPPED 5u
-
-/* The refusals. */
-#define MPC106_UNLISTED_OFFSET 1u         /* the offset has no register */
-#define MPC106_READ_ONLY 2u               /* a write at C8 to CB */
-#define MPC106_VALUE_OUT_OF_RANGE 3u      /* an extended byte above 3; F2 neither 0 nor 8 */
-#define MPC106_LOCKED_WHILE_ON 4u         /* a write at 80 to A0, F0 or F1 while memory is on */
-#define MPC106_NOT_READY 5u               /* memory is off, or the record would not be switched on */
-#define MPC106_COUNT_OUT_OF_RANGE 6u      /* a count of 0 or above 8 */
-#define MPC106_CROSSES_DOUBLEWORD 7u      /* the access leaves its doubleword */
-#define MPC106_BIT_OUT_OF_RANGE 8u        /* a flip of a bit above 71 */
-#define MPC106_NOT_LENT 9u                /* the cell is not wholly within the lent cells */
-#define MPC106_FLIP_WITHOUT_BANK 10u      /* a flip where no bank holds the address */
-#define MPC106_NO_BANK_ENABLED 11u        /* switching on with no bank enabled */
-#define MPC106_START_ABOVE_END 12u        /* with the bank: it starts above its end */
-#define MPC106_TOO_LONG 13u               /* with the bank: it is too long for its rows */
-#define MPC106_OVERLAP 14u                /* with the bank: its span meets a lower enabled bank's */
-#define MPC106_BANK_OFF 15u               /* the way back of a bank above 7, or of one that is off */
-#define MPC106_ROW_OR_COLUMN_TOO_LARGE 16u
-#define MPC106_NO_ADDRESS 17u             /* no address has that bank, row and column */
+void mpc106_raw_fresh(uint8_t registers[256]);
+uint32_t mpc106_raw_judge(const uint8_t registers[256]);
+uint32_t mpc106_raw_cell_count(const uint8_t registers[256], uint32_t count[1]);
+uint32_t mpc106_raw_register_read(const uint8_t registers[256], uint32_t offset, uint8_t value[1]);
+uint32_t mpc106_raw_register_write(uint8_t registers[256], uint32_t offset, uint8_t value);
+uint32_t mpc106_raw_map(const uint8_t registers[256], uint32_t address, uint32_t place[5]);
+uint32_t mpc106_raw_way_back(const uint8_t registers[256], uint32_t bank, uint32_t row, uint32_t column,
+                             uint32_t address[1]);
+uint32_t mpc106_raw_alike(const uint8_t first[256], const uint8_t second[256], uint32_t alike[1]);
+uint32_t mpc106_raw_read(uint8_t registers[256], const uint8_t *cells, size_t cells_length, uint32_t address,
+                         uint8_t *buffer, size_t buffer_length, uint32_t answer[5]);
+uint32_t mpc106_raw_write(uint8_t registers[256], uint8_t *cells, size_t cells_length, uint32_t address,
+                          const uint8_t *bytes, size_t bytes_length, uint32_t answer[5]);
+uint32_t mpc106_raw_flip(const uint8_t registers[256], uint8_t *cells, size_t cells_length, uint32_t address,
+                         uint32_t bit);
+uint32_t mpc106_raw_scrub(uint8_t registers[256], uint8_t *cells, size_t cells_length, uint32_t address,
+                          uint32_t answer[5]);
+#ifdef __cplusplus
+}
+#endif
 
 /*
- * Makes a fresh record: all 256 bytes zero, memory off.
+ * Why a call was refused, in words, without a capital letter or a full stop; each refusal has its own text.
+ * Takes what the call returned. For 0 the text is "accepted".
  */
-void mpc106_fresh(uint8_t record[256]);
+static inline const char *mpc106_refusal_text(uint32_t result)
+{
+    switch (MPC106_REFUSAL(result)) {
+    case 0: return "accepted";
+    case MPC106_UNLISTED_OFFSET: return "there is no register at this offset";
+    case MPC106_READ_ONLY: return "the error address at C8 to CB can only be read";
+    case MPC106_VALUE_OUT_OF_RANGE: return "an extended byte takes 0 to 3, and F2 takes 0 or 8";
+    case MPC106_LOCKED_WHILE_ON: return "the banks' registers can't be written while memory is on";
+    case MPC106_NOT_READY: return "memory is off, or its banks would not be switched on";
+    case MPC106_COUNT_OUT_OF_RANGE: return "the number of bytes is not 1 to 8";
+    case MPC106_CROSSES_DOUBLEWORD: return "the bytes don't lie in one doubleword";
+    case MPC106_BIT_OUT_OF_RANGE: return "the bit is above 71";
+    case MPC106_NOT_LENT: return "the cell is not wholly within the lent cells";
+    case MPC106_FLIP_WITHOUT_BANK: return "there is no bit to flip: no enabled bank holds the address";
+    case MPC106_NO_BANK_ENABLED: return "no bank is enabled";
+    case MPC106_START_ABOVE_END: return "an enabled bank starts above its end";
+    case MPC106_TOO_LONG: return "an enabled bank is too long for its rows";
+    case MPC106_OVERLAP: return "an enabled bank meets another of lower number";
+    case MPC106_BANK_OFF: return "the bank is above 7 or not enabled";
+    case MPC106_ROW_OR_COLUMN_TOO_LARGE: return "the bank has no such row or column";
+    case MPC106_NO_ADDRESS: return "no address has this bank, row and column";
+    default: return "a refusal that this header doesn't know";
+    }
+}
 
 /*
- * What switching the record on would get, whether or not memory is on. Changes nothing.
- * Accepted: gives 0.
- * Refused: 11; then 12 and 13 bank by bank upward; then 14 at the lowest such bank, each with the bank but
- * 11. So a bank 0 that is too long gets 13 where bank 1 starts above its end, and 14 comes last of all.
- * Banks that are off are not looked at.
+ * Makes a fresh record: all registers zero, memory off. It cannot be refused.
  */
-uint32_t mpc106_judge(const uint8_t record[256]);
+static inline void mpc106_fresh(mpc106_record *record)
+{
+    mpc106_raw_fresh(record->registers);
+}
+
+/*
+ * What switching the record on would return, whether or not memory is on. Changes nothing.
+ * Refused: 11; then 12 and 13, bank by bank upward; then 14, at the lowest such bank. All but 11 also return the
+ * bank. So if bank 0 is too long and bank 1 starts above its end, 13 is returned, and 14 comes last of all.
+ * Disabled banks are ignored.
+ */
+static inline uint32_t mpc106_judge(const mpc106_record *record)
+{
+    return mpc106_raw_judge(record->registers);
+}
+
+/*
+ * How many cells the memory has: lend MPC106_CELL_BYTES times as many bytes. It is never above 2^27.
+ * An enabled bank with R row bits has 2^(R+C) cells, where C, its column bits, is the smallest of 8, 9, .., R
+ * with 2^(R+C+3) >= its length in bytes; the memory has the sum of this over the enabled banks.
+ * Refused: 5.
+ */
+static inline uint32_t mpc106_cell_count(const mpc106_record *record, uint32_t *count)
+{
+    return mpc106_raw_cell_count(record->registers, count);
+}
 
 /*
  * Reads the register at an offset.
- * Accepted: gives the byte, 0 to 255.
- * Refused: 1.
+ * Refused: 1, for an offset above 255 too.
  */
-uint32_t mpc106_register_read(const uint8_t record[256], uint8_t offset);
+static inline uint32_t mpc106_register_read(const mpc106_record *record, uint32_t offset, uint8_t *value)
+{
+    return mpc106_raw_register_read(record->registers, offset, value);
+}
 
 /*
  * Writes a register. At C1 and C5 each 1 of the value clears that bit; elsewhere the value is stored.
  * Writing 8 to F2 while memory is off judges the banks and switches memory on; writing 0 there
- * switches it off.
- * Accepted: gives 0, and changes that one byte of the record.
- * Refused: 1, 2, 3, 4; and of switching on what mpc106_judge tells. The record is left as it was.
+ * switches it off. Writing 8 to F2 while memory is on checks nothing, and leaves 08 there.
+ * Accepted: changes that one byte of the record.
+ * Refused: 1, 2, 3, 4; and when memory is switched on, as mpc106_judge is.
  */
-uint32_t mpc106_register_write(uint8_t record[256], uint8_t offset, uint8_t value);
+static inline uint32_t mpc106_register_write(mpc106_record *record, uint32_t offset, uint8_t value)
+{
+    return mpc106_raw_register_write(record->registers, offset, value);
+}
 
 /*
- * Finds where an address is kept.
- * Accepted: gives 0, and fills place with bank, row, column and cell number, in this order;
- * or gives MPC106_NO_BANK, and place is left as it was.
- * Refused: 5. place is left as it was.
+ * Finds where an address is kept. If no bank holds it, nothing is reported: the record stays as it is.
+ * Refused: 5.
  */
-uint32_t mpc106_map(const uint8_t record[256], uint32_t address, uint32_t place[4]);
+static inline uint32_t mpc106_map(const mpc106_record *record, uint32_t address, mpc106_place *place)
+{
+    return mpc106_raw_map(record->registers, address, (uint32_t *)place);
+}
 
 /*
  * The way back: finds the address of the doubleword at a row and a column of a bank.
- * Accepted: gives 0, and fills address.
- * Refused: 5, 15, 16, 17. address is left as it was.
+ * Refused: 5, 15, 16, 17.
  */
-uint32_t mpc106_way_back(const uint8_t record[256], uint8_t bank, uint32_t row, uint32_t column,
-                         uint32_t address[1]);
-
-/*
- * Whether every address has the same bank, row and column, or no bank, in both records.
- * The two may be one record.
- * Accepted: gives 1 where they are alike, 0 where they are not.
- * Refused: 5, where either record is not switched on or would not be.
- */
-uint32_t mpc106_alike(const uint8_t first[256], const uint8_t second[256]);
-
-/*
- * Reads buffer_length bytes, 1 to 8, inside one doubleword, into buffer.
- * Accepted: gives MPC106_CLEAN or MPC106_CORRECTED with the right bytes in buffer,
- * MPC106_UNCORRECTABLE with the bytes as they are stored, or MPC106_NO_BANK with FF in every byte.
- * The error registers of the record (B8, C1, C5, C8 to CB) are brought up to date. Cells are never changed.
- * Refused: 5, 6, 7, 9. record and buffer are left as they were.
- */
-uint32_t mpc106_read(uint8_t record[256], const uint8_t *cells, size_t cells_length, uint32_t address,
-                     uint8_t *buffer, size_t buffer_length);
-
-/*
- * Writes bytes_length bytes, 1 to 8, inside one doubleword.
- * Accepted, 8 bytes: gives MPC106_STORED; data and check byte are stored, whatever stood there.
- * Accepted, fewer: the doubleword is put right, the bytes are merged into it, and it is stored; gives
- * MPC106_CLEAN or MPC106_CORRECTED. Where it cannot be put right, gives MPC106_UNCORRECTABLE, and cells
- * are left as they were.
- * Accepted, no bank: gives MPC106_NO_BANK, and cells are left as they were.
- * The error registers of the record are brought up to date.
- * Refused: 5, 6, 7, 9. record and cells are left as they were.
- */
-uint32_t mpc106_write(uint8_t record[256], uint8_t *cells, size_t cells_length, uint32_t address,
-                      const uint8_t *bytes, size_t bytes_length);
-
-/*
- * Turns over one bit of the cell of the doubleword that holds the address, as a fault would: bit 0 is
- * the top bit of data byte 0, bit 63 the bottom bit of data byte 7, bit 64 + j is bit j of the check byte.
- * Accepted: gives MPC106_FLIPPED. The record is left as it was.
- * Refused: 5, 8, 10, 9. record and cells are left as they were.
- */
-uint32_t mpc106_flip(uint8_t record[256], uint8_t *cells, size_t cells_length, uint32_t address, uint8_t bit);
-
-/*
- * Scrubs the doubleword that holds the address: a cell that can be put right is stored again.
- * Accepted: gives MPC106_CLEAN, MPC106_CORRECTED, MPC106_UNCORRECTABLE or MPC106_NO_BANK; cells change
- * only with MPC106_CORRECTED. The error registers of the record are brought up to date.
- * Refused: 5, 9. record and cells are left as they were.
- */
-uint32_t mpc106_scrub(uint8_t record[256], uint8_t *cells, size_t cells_length, uint32_t address);
-
-#ifdef __cplusplus
+static inline uint32_t mpc106_way_back(const mpc106_record *record, uint32_t bank, uint32_t row, uint32_t column,
+                                       uint32_t *address)
+{
+    return mpc106_raw_way_back(record->registers, bank, row, column, address);
 }
-#endif
+
+/*
+ * Whether every address has the same bank, row and column, or no bank, in both records: 1 or 0.
+ * The two may be one record.
+ * Refused: 5, if memory is off in either record or its banks would not be switched on.
+ */
+static inline uint32_t mpc106_alike(const mpc106_record *first, const mpc106_record *second, uint32_t *alike)
+{
+    return mpc106_raw_alike(first->registers, second->registers, alike);
+}
+
+/*
+ * Reads count bytes, 1 to 8, inside one doubleword, into buffer.
+ * Gives MPC106_CLEAN or MPC106_CORRECTED with the right bytes in buffer, MPC106_UNCORRECTABLE with the bytes as
+ * they are stored, or MPC106_NO_BANK with FF in every byte.
+ * The error registers of the record (B8, C1, C5, C8 to CB) are brought up to date. Cells are never changed.
+ * Refused: 5, 6, 7, 9.
+ */
+static inline uint32_t mpc106_read(const mpc106_memory *memory, uint32_t address, uint8_t *buffer, size_t count,
+                                   mpc106_answer *answer)
+{
+    return mpc106_raw_read(memory->record->registers, memory->cells, memory->cells_length, address, buffer, count,
+                           (uint32_t *)answer);
+}
+
+/*
+ * Writes count bytes, 1 to 8, inside one doubleword.
+ * 8 bytes: gives MPC106_STORED; data and check byte are stored, whatever was there before.
+ * Fewer: the doubleword is corrected, the bytes are merged into it, and it is stored; gives MPC106_CLEAN or
+ * MPC106_CORRECTED. If it cannot be corrected, gives MPC106_UNCORRECTABLE, and cells are left as they were.
+ * No bank: gives MPC106_NO_BANK, and cells are left as they were.
+ * The error registers of the record are brought up to date.
+ * Refused: 5, 6, 7, 9.
+ */
+static inline uint32_t mpc106_write(const mpc106_memory *memory, uint32_t address, const uint8_t *bytes, size_t count,
+                                    mpc106_answer *answer)
+{
+    return mpc106_raw_write(memory->record->registers, memory->cells, memory->cells_length, address, bytes, count,
+                            (uint32_t *)answer);
+}
+
+/*
+ * Inverts one bit of the cell of the doubleword that holds the address, as a fault would: bit 0 is
+ * the top bit of data byte 0, bit 63 the bottom bit of data byte 7, bit 64 + j is bit j of the check byte.
+ * The record is not changed.
+ * Refused: 5, 8, 10, 9.
+ */
+static inline uint32_t mpc106_flip(const mpc106_memory *memory, uint32_t address, uint32_t bit)
+{
+    const mpc106_record *record = memory->record;
+    return mpc106_raw_flip(record->registers, memory->cells, memory->cells_length, address, bit);
+}
+
+/*
+ * Scrubs the doubleword that holds the address: a cell that needs a correction is corrected and stored again.
+ * Gives MPC106_CLEAN, MPC106_CORRECTED, MPC106_UNCORRECTABLE or MPC106_NO_BANK; cells change only with
+ * MPC106_CORRECTED. The error registers of the record are brought up to date.
+ * Refused: 5, 9.
+ */
+static inline uint32_t mpc106_scrub(const mpc106_memory *memory, uint32_t address, mpc106_answer *answer)
+{
+    return mpc106_raw_scrub(memory->record->registers, memory->cells, memory->cells_length, address,
+                            (uint32_t *)answer);
+}
 
 #endif

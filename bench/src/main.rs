@@ -1,49 +1,33 @@
-//! The proved library beside the model made apart, in one run.
+//! The proved library beside the independent model and a hand-written library (`limit`), in one run.
 //!
-//! Method: both are built for release. Each row makes the same calls, in the same order, on both sides, in turns of 200,000 calls (1,000 of alike),
-//! ours first, and takes the least time of nine turns. The set-up has two banks (megabytes 0 to 1 with 9 row bits, 2 to 4 with 10); all cells are
-//! lent. Addresses are random. Those of memory calls stay inside 64 KiB, so that the calls are timed and not the caches; the doublewords there are
-//! written once with random bytes before the clock starts, the same on both sides. Those of the map stay inside 8 MB, so that some have no bank. The
-//! buffers are one array of eight bytes a side, not cleared between calls. The functions timed are not inlined into the loop: ours are C functions of
-//! an archive, called through the Rust wrapper, and the model's are in another crate and were seen as calls in the machine code.
+//! Method: all three are built for release. For a row, each side makes the same calls in the same order, by turns: 2,048 calls without a clock
+//! and then 2,048 that are timed, ours first. Nine such turns make a pass, and there are five passes over the whole table. So the turns of a row
+//! are spread over the run, and a busy moment of the machine spoils at most one pass. The table has the least time of all turns.
+//!
+//! Each side has a record, cells and a buffer of its own, the same at the start of a row. All cells are lent. The addresses of a row's
+//! memory calls are random within 1,024 doublewords at the start of one bank, the lowest or the highest, so that calls are timed and not the
+//! caches. These doublewords hold random bytes; in rows of corrected reads each has one bit inverted, and in rows of uncorrectable reads two.
+//! Error reporting is enabled. After a row, record, buffer, answer and those cells must be equal on all sides.
+//!
+//! The functions timed are not inlined into the loop: ours and the limit's are C functions of archives, called through the declarations of
+//! `rust/src/ffi.rs` and of `bench/limit`, and the model's are in another crate.
 mod lines;
+mod other;
 mod rows;
+mod setups;
+mod table;
 
-use std::hint::black_box;
-use std::time::Instant;
+use table::Table;
 
-const TURNS: usize = 9;
-const CALLS: usize = 200_000;
-
-fn nanoseconds(call: &mut impl FnMut(u32), inputs: &[u32], calls: usize) -> f64 {
-    let start = Instant::now();
-    for &input in inputs.iter().cycle().take(calls) {
-        call(black_box(input));
-    }
-    start.elapsed().as_secs_f64() * 1e9 / calls as f64
-}
-
-/// One row: the least time of each side over the turns, and their ratio.
-pub fn row(
-    name: &str,
-    inputs: &[u32],
-    calls: usize,
-    mut ours: impl FnMut(u32),
-    mut theirs: impl FnMut(u32),
-) {
-    let (mut a, mut b) = (f64::MAX, f64::MAX);
-    for _ in 0..TURNS {
-        a = a.min(nanoseconds(&mut ours, inputs, calls));
-        b = b.min(nanoseconds(&mut theirs, inputs, calls));
-    }
-    println!("{name:<24}{a:>10.1}{b:>10.1}{:>8.2}", a / b);
-}
+const PASSES: usize = 5;
 
 fn main() {
-    println!(
-        "{:<24}{:>10}{:>10}{:>8}",
-        "ns a call", "ours", "model", "ratio"
-    );
-    rows::print_all(CALLS);
+    let mut table = Table::new();
+    for _ in 0..PASSES {
+        table.begin_pass();
+        rows::run(&mut table);
+        other::run(&mut table);
+    }
+    table.print();
     lines::print();
 }

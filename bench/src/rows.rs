@@ -1,191 +1,237 @@
-//! The rows of calls.
-use crate::row;
+//! The rows of memory calls and of the map, for each set-up.
+use crate::setups::{self, Setup};
+use crate::table::{over, Row, Table};
 use model::gen::Rng;
-use mpc106::{Column, Row};
+use model::{memory, Record};
+use mpc106::{ffi, CELL_BYTES};
 use std::hint::black_box;
+use std::ops::Range;
+
+/// The number of calls in a turn, and of doublewords that they touch.
+pub const CALLS: usize = 2048;
+const DOUBLEWORDS: u32 = 1024;
+
+/// What was done to each doubleword before a row.
+#[derive(Clone, Copy)]
+enum Flips {
+    None,
+    One,
+    Two,
+}
+
+/// What one side works on. The numbers are an answer, or a place.
+#[derive(Clone)]
+struct Machine {
+    record: Record,
+    cells: Vec<u8>,
+    buffer: [u8; 8],
+    numbers: [u32; 5],
+}
+
+/// What a row calls, on each side.
+#[derive(Clone, Copy)]
+enum Call {
+    Read(usize),
+    Write(usize),
+    Scrub,
+    Flip,
+    Map,
+}
+
+const ROWS: [(&str, Call, Flips); 9] = [
+    ("read of 8", Call::Read(8), Flips::None),
+    ("read of 1", Call::Read(1), Flips::None),
+    ("read of 8, corrected", Call::Read(8), Flips::One),
+    ("read of 8, uncorrectable", Call::Read(8), Flips::Two),
+    ("write of 8", Call::Write(8), Flips::None),
+    ("write of 1", Call::Write(1), Flips::None),
+    ("scrub", Call::Scrub, Flips::None),
+    ("flip", Call::Flip, Flips::None),
+    ("map", Call::Map, Flips::None),
+];
+
+pub fn run(table: &mut Table) {
+    for setup in setups::all() {
+        for (name, call, flips) in ROWS {
+            row(table, &setup, name, call, flips);
+        }
+    }
+}
+
+fn row(table: &mut Table, setup: &Setup, name: &'static str, call: Call, flips: Flips) {
+    let inputs = addresses(setup, call);
+    let [mut a, mut b, mut c] = [0; 3].map(|_| machine(setup, flips));
+    let row = Row {
+        group: setup.name,
+        name,
+        inputs: &inputs,
+    };
+    let sides = (&mut a, &mut b, &mut c);
+    match call {
+        Call::Read(n) => read_row(table, row, sides, n),
+        Call::Write(n) => write_row(table, row, sides, n),
+        Call::Scrub => scrub_row(table, row, sides),
+        Call::Flip => flip_row(table, row, sides),
+        Call::Map => map_row(table, row, sides),
+    }
+    let touched = touched(setup);
+    assert!(
+        is_same(&a, &b, &touched),
+        "{}, {name}: the model",
+        setup.name
+    );
+    assert!(
+        is_same(&a, &c, &touched),
+        "{}, {name}: the limit",
+        setup.name
+    );
+}
+
+/// Answers and places are compared only if both sides write them down.
+fn is_same(a: &Machine, b: &Machine, cells: &Range<usize>) -> bool {
+    a.record == b.record
+        && a.buffer == b.buffer
+        && a.cells[cells.clone()] == b.cells[cells.clone()]
+        && (b.numbers == [0; 5] || a.numbers == b.numbers)
+}
+
+/// The bytes of the cells of the doublewords that the calls touch; these cells are next to each other.
+fn touched(setup: &Setup) -> Range<usize> {
+    let place = model::map::map(&setup.record, setup.address);
+    let first = place.expect("memory is on").expect("a bank").cell as usize;
+    first * CELL_BYTES..(first + DOUBLEWORDS as usize) * CELL_BYTES
+}
+
+fn addresses(setup: &Setup, call: Call) -> Vec<u32> {
+    let mut rng = Rng::new(106);
+    let mut address = || {
+        let inside = match call {
+            Call::Read(8) | Call::Write(8) => 0,
+            _ => rng.below(8),
+        };
+        setup.address + 8 * rng.below(DOUBLEWORDS) + inside
+    };
+    (0..CALLS).map(|_| address()).collect()
+}
+
+/// Random bytes in each of the doublewords, with some bits inverted.
+fn machine(setup: &Setup, flips: Flips) -> Machine {
+    let mut rng = Rng::new(7);
+    let mut record = setup.record;
+    let layout = model::map::judge(&record).expect("memory is on");
+    let mut cells = vec![0; layout.cells() as usize * CELL_BYTES];
+    for k in 0..DOUBLEWORDS {
+        let address = setup.address + 8 * k;
+        let bytes = rng.next_u64().to_le_bytes();
+        memory::write(&mut record, &mut cells, address, &bytes).expect("a write");
+        let first = rng.below(72);
+        let second = (first + 1 + rng.below(71)) % 72;
+        let bits: &[u32] = match flips {
+            Flips::None => &[],
+            Flips::One => &[first],
+            Flips::Two => &[first, second],
+        };
+        for &bit in bits {
+            memory::flip(&record, &mut cells, address, bit as u8).expect("a flip");
+        }
+    }
+    Machine {
+        record,
+        cells,
+        buffer: [0; 8],
+        numbers: [0; 5],
+    }
+}
+
+type Sides<'a> = (&'a mut Machine, &'a mut Machine, &'a mut Machine);
 
 /// Keeps the compiler from leaving out a call whose answer nobody reads.
 fn used<T>(answer: T) {
     black_box(answer);
 }
 
-/// 2^18 doublewords of bank 0 and 2^19 of bank 1.
-const CELLS: usize = (1 << 18) + (1 << 19);
-
-const SETUP: [(u8, u8); 5] = [(0x90, 1), (0x81, 2), (0x91, 4), (0xf0, 4), (0xa0, 3)];
-
-struct Side<R> {
-    record: R,
-    cells: Vec<u8>,
+fn read_row(table: &mut Table, row: Row, (a, b, c): Sides, n: usize) {
+    let mut ours = over(|at| {
+        let (cells, length, buffer) = (a.cells.as_ptr(), a.cells.len(), a.buffer.as_mut_ptr());
+        let (bytes, answer) = (&mut a.record.bytes, &mut a.numbers);
+        // SAFETY: the pointers are to as many bytes as the lengths say.
+        used(unsafe { ffi::mpc106_raw_read(bytes, cells, length, at, buffer, n, answer) });
+    });
+    let mut model = over(|at| {
+        let buffer = &mut b.buffer[..n];
+        used(memory::read(&mut b.record, &b.cells, at, buffer));
+    });
+    let mut limit = over(|at| {
+        let (cells, length, buffer) = (c.cells.as_ptr(), c.cells.len(), c.buffer.as_mut_ptr());
+        let (bytes, answer) = (&mut c.record.bytes, &mut c.numbers);
+        // SAFETY: as above.
+        used(unsafe { limit::limit_read(bytes, cells, length, at, buffer, n, answer) });
+    });
+    table.row(row, [Some(&mut ours), Some(&mut model), Some(&mut limit)]);
 }
 
-fn ours() -> Side<mpc106::Registers> {
-    let mut record = mpc106::Registers::fresh();
-    for (offset, value) in SETUP {
-        record
-            .write_register(offset, value)
-            .expect("the set-up is accepted");
-    }
-    Side {
-        record,
-        cells: vec![0; 9 * CELLS],
-    }
+fn write_row(table: &mut Table, row: Row, (a, b, c): Sides, n: usize) {
+    let mut ours = over(|at| {
+        let (cells, length, buffer) = (a.cells.as_mut_ptr(), a.cells.len(), a.buffer.as_ptr());
+        let (bytes, answer) = (&mut a.record.bytes, &mut a.numbers);
+        // SAFETY: the pointers are to as many bytes as the lengths say.
+        used(unsafe { ffi::mpc106_raw_write(bytes, cells, length, at, buffer, n, answer) });
+    });
+    let mut model = over(|at| {
+        let bytes = &b.buffer[..n];
+        used(memory::write(&mut b.record, &mut b.cells, at, bytes));
+    });
+    let mut limit = over(|at| {
+        let (cells, length, buffer) = (c.cells.as_mut_ptr(), c.cells.len(), c.buffer.as_ptr());
+        let (bytes, answer) = (&mut c.record.bytes, &mut c.numbers);
+        // SAFETY: as above.
+        used(unsafe { limit::limit_write(bytes, cells, length, at, buffer, n, answer) });
+    });
+    table.row(row, [Some(&mut ours), Some(&mut model), Some(&mut limit)]);
 }
 
-fn theirs() -> Side<model::Record> {
-    let mut record = model::Record::fresh();
-    for (offset, value) in SETUP {
-        record
-            .write_register(offset, value)
-            .expect("the set-up is accepted");
-    }
-    Side {
-        record,
-        cells: vec![0; 9 * CELLS],
-    }
+fn scrub_row(table: &mut Table, row: Row, (a, b, c): Sides) {
+    let mut ours = over(|at| {
+        let (cells, length) = (a.cells.as_mut_ptr(), a.cells.len());
+        let (bytes, answer) = (&mut a.record.bytes, &mut a.numbers);
+        // SAFETY: the pointer is to as many bytes as the length says.
+        used(unsafe { ffi::mpc106_raw_scrub(bytes, cells, length, at, answer) });
+    });
+    let mut model = over(|at| used(memory::scrub(&mut b.record, &mut b.cells, at)));
+    let mut limit = over(|at| {
+        let (cells, length) = (c.cells.as_mut_ptr(), c.cells.len());
+        let (bytes, answer) = (&mut c.record.bytes, &mut c.numbers);
+        // SAFETY: as above.
+        used(unsafe { limit::limit_scrub(bytes, cells, length, at, answer) });
+    });
+    table.row(row, [Some(&mut ours), Some(&mut model), Some(&mut limit)]);
 }
 
-/// Random bytes in every doubleword that the rows touch, the same on both sides.
-fn fill(a: &mut Side<mpc106::Registers>, b: &mut Side<model::Record>, rng: &mut Rng) {
-    for address in (0..0x1_0000).step_by(8) {
-        let bytes = rng.next_u64().to_le_bytes();
-        a.record
-            .write(&mut a.cells, address, &bytes)
-            .expect("a write");
-        model::memory::write(&mut b.record, &mut b.cells, address, &bytes).expect("a write");
-    }
+fn flip_row(table: &mut Table, row: Row, (a, b, c): Sides) {
+    let mut ours = over(|at| {
+        let (cells, length) = (a.cells.as_mut_ptr(), a.cells.len());
+        // SAFETY: the pointer is to as many bytes as the length says.
+        used(unsafe { ffi::mpc106_raw_flip(&a.record.bytes, cells, length, at, at % 72) });
+    });
+    let mut model = over(|at| {
+        used(memory::flip(&b.record, &mut b.cells, at, (at % 72) as u8));
+    });
+    let mut limit = over(|at| {
+        let (cells, length) = (c.cells.as_mut_ptr(), c.cells.len());
+        // SAFETY: as above.
+        used(unsafe { limit::limit_flip(&c.record.bytes, cells, length, at, at % 72) });
+    });
+    table.row(row, [Some(&mut ours), Some(&mut model), Some(&mut limit)]);
 }
 
-fn addresses(rng: &mut Rng, mask: u32) -> Vec<u32> {
-    (0..4096).map(|_| rng.next_u64() as u32 & mask).collect()
-}
-
-pub fn print_all(calls: usize) {
-    let mut rng = Rng::new(106);
-    let (mut a, mut b) = (ours(), theirs());
-    switching_on(&a.record, &b.record, calls);
-    a.record.write_register(0xf2, 8).expect("switching on");
-    b.record.write_register(0xf2, 8).expect("switching on");
-    fill(&mut a, &mut b, &mut rng);
-    let (x, y) = ([0; 8], [0; 8]);
-    let mut memory = Memory { a, b, x, y, calls };
-    memory_rows(&mut memory, &mut rng);
-    map_rows(&memory.a.record, &memory.b.record, &mut rng, calls);
-}
-
-fn switching_on(a: &mpc106::Registers, b: &model::Record, calls: usize) {
-    row(
-        "switching on",
-        &[8],
-        calls,
-        |v| {
-            let mut r = *a;
-            used(r.write_register(0xf2, v as u8));
-        },
-        |v| {
-            let mut r = *b;
-            used(r.write_register(0xf2, v as u8));
-        },
-    );
-}
-
-/// Both sides, switched on, and the buffer of each: reads fill it, and writes store what it then holds.
-struct Memory {
-    a: Side<mpc106::Registers>,
-    b: Side<model::Record>,
-    x: [u8; 8],
-    y: [u8; 8],
-    calls: usize,
-}
-
-fn memory_rows(memory: &mut Memory, rng: &mut Rng) {
-    let (whole, any) = (addresses(rng, 0xfff8), addresses(rng, 0xffff));
-    memory.read_row("read of 8", &whole, 8);
-    memory.read_row("read of 1", &any, 1);
-    memory.write_row("write of 8", &whole, 8);
-    memory.write_row("write of 1", &any, 1);
-    memory.scrub_row(&whole);
-    memory.flip_row(&any);
-}
-
-impl Memory {
-    fn read_row(&mut self, name: &str, inputs: &[u32], n: usize) {
-        let Memory { a, b, x, y, calls } = self;
-        let (x, y) = (&mut x[..n], &mut y[..n]);
-        row(
-            name,
-            inputs,
-            *calls,
-            |at| used(a.record.read(&a.cells, at, x)),
-            |at| used(model::memory::read(&mut b.record, &b.cells, at, y)),
-        );
-    }
-
-    fn write_row(&mut self, name: &str, inputs: &[u32], n: usize) {
-        let Memory { a, b, x, y, calls } = self;
-        let (x, y) = (&x[..n], &y[..n]);
-        row(
-            name,
-            inputs,
-            *calls,
-            |at| used(a.record.write(&mut a.cells, at, x)),
-            |at| used(model::memory::write(&mut b.record, &mut b.cells, at, y)),
-        );
-    }
-
-    fn scrub_row(&mut self, inputs: &[u32]) {
-        let Memory { a, b, calls, .. } = self;
-        row(
-            "scrub",
-            inputs,
-            *calls,
-            |at| used(a.record.scrub(&mut a.cells, at)),
-            |at| used(model::memory::scrub(&mut b.record, &mut b.cells, at)),
-        );
-    }
-
-    fn flip_row(&mut self, inputs: &[u32]) {
-        let Memory { a, b, calls, .. } = self;
-        let bit = |at| (at % 72) as u8;
-        row(
-            "flip",
-            inputs,
-            *calls,
-            |at| used(a.record.flip(&mut a.cells, at, bit(at))),
-            |at| used(model::memory::flip(&b.record, &mut b.cells, at, bit(at))),
-        );
-    }
-}
-
-fn map_rows(a: &mpc106::Registers, b: &model::Record, rng: &mut Rng, calls: usize) {
-    let wide = addresses(rng, 0x7f_ffff);
-    row(
-        "map",
-        &wide,
-        calls,
-        |at| used(a.map(at)),
-        |at| used(model::map::map(b, at)),
-    );
-    row(
-        "way back",
-        &wide,
-        calls,
-        |at| used(a.way_back(1, Row(at >> 13), Column(at & 0x1ff))),
-        |at| {
-            used(model::map::way_back(
-                b,
-                1,
-                model::map::Row(at >> 13),
-                model::map::Column(at & 0x1ff),
-            ))
-        },
-    );
-    let (c, d) = (*a, *b);
-    row(
-        "alike",
-        &wide,
-        calls / 200,
-        |_| used(a.is_alike(&c)),
-        |_| used(model::map::alike(b, &d)),
-    );
+fn map_row(table: &mut Table, row: Row, (a, b, c): Sides) {
+    // SAFETY: nothing is lent but the record and the place.
+    let mut ours = over(|at| {
+        used(unsafe { ffi::mpc106_raw_map(&a.record.bytes, at, &mut a.numbers) });
+    });
+    let mut model = over(|at| used(model::map::map(&b.record, at)));
+    let mut limit = over(|at| {
+        used(unsafe { limit::limit_map(&c.record.bytes, at, &mut c.numbers) });
+    });
+    table.row(row, [Some(&mut ours), Some(&mut model), Some(&mut limit)]);
 }

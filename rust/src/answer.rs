@@ -1,179 +1,76 @@
 //! Answers: from the library's numbers to enums.
-use std::error::Error;
-use std::fmt;
+use crate::Refusal;
 
-/// Every accepted call's answer is at least this.
-const ACCEPTED: u32 = 0x10000;
+/// The most parts that an answer has.
+const PARTS: usize = 4;
 
-/// What an accepted memory call answers.
+/// What happened at one part of an accepted read, write or scrub.
 #[derive(Clone, Copy, Debug, PartialEq, Eq, Hash)]
 pub enum Kind {
     /// Nothing was wrong.
     Clean,
-    /// One bit was wrong, and was put right.
+    /// One bit was wrong and was corrected.
     Corrected,
-    /// More was wrong than can be put right.
+    /// More bits were wrong than can be corrected.
     Uncorrectable,
-    /// A write of 8 bytes, which looks at nothing old.
+    /// A write of 8 bytes, which does not look at the old cell.
     Stored,
     /// No enabled bank holds the address.
     NoBank,
-    /// A flip.
-    Flipped,
 }
 
-/// Why a call declined. It left everything as it was. Where two apply the lower number is given, except that
-/// 10 comes before 9, and that switching on has the order that [`Registers::judge`](crate::Registers::judge) tells.
+/// One part of an answer: what one doubleword gave.
 #[derive(Clone, Copy, Debug, PartialEq, Eq, Hash)]
-pub enum Refusal {
-    /// 1: the offset has no register.
-    UnlistedOffset,
-    /// 2: a write at C8 to CB.
-    ReadOnly,
-    /// 3: an extended byte above 3, or F2 neither 0 nor 8.
-    ValueOutOfRange,
-    /// 4: a write at 80 to A0, F0 or F1 while memory is on.
-    LockedWhileOn,
-    /// 5: memory is off, or the record would not be switched on.
-    NotReady,
-    /// 6: a count of 0 or above 8.
-    CountOutOfRange,
-    /// 7: the access leaves its doubleword.
-    CrossesDoubleword,
-    /// 8: a flip of a bit above 71.
-    BitOutOfRange,
-    /// 9: the cell is not wholly within the lent cells.
-    NotLent,
-    /// 10: a flip where no bank holds the address.
-    FlipWithoutBank,
-    /// 11: switching on with no bank enabled.
-    NoBankEnabled,
-    /// 12: this enabled bank starts above its end.
-    StartAboveEnd(u8),
-    /// 13: this enabled bank is too long for its rows.
-    TooLong(u8),
-    /// 14: the span of this enabled bank meets a lower one's.
-    Overlap(u8),
-    /// 15: the way back of a bank above 7, or of one that is off.
-    BankOff,
-    /// 16: the way back of a row or column that the bank does not have.
-    RowOrColumnTooLarge,
-    /// 17: no address has that bank, row and column.
-    NoAddress,
-    /// An answer that the proved library never gives: another library was linked. Holds the answer.
-    Unknown(u32),
+#[non_exhaustive]
+pub struct Part {
+    /// What happened there.
+    pub kind: Kind,
 }
 
-impl Refusal {
-    /// The number of the refusal, 1 to 17; 0 of an unknown answer.
-    pub fn number(self) -> u8 {
-        match self {
-            Refusal::UnlistedOffset => 1,
-            Refusal::ReadOnly => 2,
-            Refusal::ValueOutOfRange => 3,
-            Refusal::LockedWhileOn => 4,
-            Refusal::NotReady => 5,
-            Refusal::CountOutOfRange => 6,
-            Refusal::CrossesDoubleword => 7,
-            Refusal::BitOutOfRange => 8,
-            Refusal::NotLent => 9,
-            Refusal::FlipWithoutBank => 10,
-            Refusal::NoBankEnabled => 11,
-            Refusal::StartAboveEnd(_) => 12,
-            Refusal::TooLong(_) => 13,
-            Refusal::Overlap(_) => 14,
-            Refusal::BankOff => 15,
-            Refusal::RowOrColumnTooLarge => 16,
-            Refusal::NoAddress => 17,
-            Refusal::Unknown(_) => 0,
-        }
+/// What an accepted read, write or scrub gives. At present each answer has one part.
+#[derive(Clone, Copy, Debug, PartialEq, Eq, Hash)]
+pub struct Answer {
+    count: usize,
+    parts: [Part; PARTS],
+}
+
+impl Answer {
+    /// The parts, at least one, in the order in which they were performed.
+    pub fn parts(&self) -> &[Part] {
+        &self.parts[..self.count]
     }
 
-    /// The bank that refusals 12 to 14 return.
-    pub fn bank(self) -> Option<u8> {
-        match self {
-            Refusal::StartAboveEnd(bank) | Refusal::TooLong(bank) | Refusal::Overlap(bank) => {
-                Some(bank)
-            }
-            _ => None,
-        }
+    /// The kind of the first part.
+    pub fn kind(&self) -> Kind {
+        self.parts[0].kind
     }
 }
 
-impl fmt::Display for Refusal {
-    fn fmt(&self, f: &mut fmt::Formatter<'_>) -> fmt::Result {
-        write!(f, "refused with {}: {:?}", self.number(), self)
+fn part(number: u32) -> Option<Part> {
+    let kind = match number {
+        1 => Kind::Clean,
+        2 => Kind::Corrected,
+        3 => Kind::Uncorrectable,
+        4 => Kind::Stored,
+        5 => Kind::NoBank,
+        _ => return None,
+    };
+    Some(Part { kind })
+}
+
+/// The answer in the numbers that an accepted call gave: the count, then four parts.
+pub(crate) fn answer([count, numbers @ ..]: [u32; PARTS + 1]) -> Result<Answer, Refusal> {
+    let unknown = Refusal::Unknown(0);
+    let first = part(numbers[0]).ok_or(unknown)?;
+    let count = count as usize;
+    if count == 0 || count > PARTS {
+        return Err(unknown);
     }
-}
-
-impl Error for Refusal {}
-
-fn refusal(answer: u32) -> Refusal {
-    let [number, bank, ..] = answer.to_le_bytes();
-    match (number, bank) {
-        (1, 0) => Refusal::UnlistedOffset,
-        (2, 0) => Refusal::ReadOnly,
-        (3, 0) => Refusal::ValueOutOfRange,
-        (4, 0) => Refusal::LockedWhileOn,
-        (5, 0) => Refusal::NotReady,
-        (6, 0) => Refusal::CountOutOfRange,
-        (7, 0) => Refusal::CrossesDoubleword,
-        (8, 0) => Refusal::BitOutOfRange,
-        (9, 0) => Refusal::NotLent,
-        (10, 0) => Refusal::FlipWithoutBank,
-        (11, 0) => Refusal::NoBankEnabled,
-        (12, bank) => Refusal::StartAboveEnd(bank),
-        (13, bank) => Refusal::TooLong(bank),
-        (14, bank) => Refusal::Overlap(bank),
-        (15, 0) => Refusal::BankOff,
-        (16, 0) => Refusal::RowOrColumnTooLarge,
-        (17, 0) => Refusal::NoAddress,
-        _ => Refusal::Unknown(answer),
+    let mut parts = [first; PARTS];
+    for (place, number) in parts.iter_mut().zip(numbers).take(count).skip(1) {
+        *place = part(number).ok_or(unknown)?;
     }
-}
-
-/// What an accepted call gives.
-fn given(answer: u32) -> Result<u32, Refusal> {
-    answer.checked_sub(ACCEPTED).ok_or_else(|| refusal(answer))
-}
-
-pub fn nothing(answer: u32) -> Result<(), Refusal> {
-    match given(answer)? {
-        0 => Ok(()),
-        _ => Err(Refusal::Unknown(answer)),
-    }
-}
-
-pub fn byte(answer: u32) -> Result<u8, Refusal> {
-    u8::try_from(given(answer)?).map_err(|_| Refusal::Unknown(answer))
-}
-
-pub fn truth(answer: u32) -> Result<bool, Refusal> {
-    match given(answer)? {
-        0 => Ok(false),
-        1 => Ok(true),
-        _ => Err(Refusal::Unknown(answer)),
-    }
-}
-
-pub fn is_placed(answer: u32) -> Result<bool, Refusal> {
-    match given(answer)? {
-        0 => Ok(true),
-        4 => Ok(false),
-        _ => Err(Refusal::Unknown(answer)),
-    }
-}
-
-pub fn kind(answer: u32) -> Result<Kind, Refusal> {
-    match given(answer)? {
-        0 => Ok(Kind::Clean),
-        1 => Ok(Kind::Corrected),
-        2 => Ok(Kind::Uncorrectable),
-        3 => Ok(Kind::Stored),
-        4 => Ok(Kind::NoBank),
-        5 => Ok(Kind::Flipped),
-        _ => Err(Refusal::Unknown(answer)),
-    }
+    Ok(Answer { count, parts })
 }
 
 #[cfg(test)]
@@ -181,33 +78,29 @@ mod tests {
     use super::*;
 
     #[test]
-    fn refusals_keep_their_number_and_bank() {
-        for number in 1..=17 {
-            let x = refusal(number);
-            assert_eq!(u32::from(x.number()), number);
-            assert_eq!(x.bank(), (12..=14).contains(&number).then_some(0));
-        }
-        for number in 12..=14 {
-            assert_eq!(refusal(number + 7 * 256).bank(), Some(7));
-        }
+    fn each_part_has_its_kind() {
+        let given = answer([4, 1, 2, 3, 4]).expect("an answer");
+        let kinds = [
+            Kind::Clean,
+            Kind::Corrected,
+            Kind::Uncorrectable,
+            Kind::Stored,
+        ];
+        assert!(given.parts().iter().map(|part| part.kind).eq(kinds));
+        assert_eq!(answer([1, 5, 0, 0, 0]).map(|x| x.kind()), Ok(Kind::NoBank));
+        assert_eq!(answer([1, 5, 0, 0, 0]).map(|x| x.parts().len()), Ok(1));
     }
 
     #[test]
     fn answers_that_are_never_given_are_told_apart() {
-        assert_eq!(kind(0), Err(Refusal::Unknown(0)));
-        assert_eq!(kind(18), Err(Refusal::Unknown(18)));
-        assert_eq!(kind(0x10105), Err(Refusal::Unknown(0x10105)));
-        assert_eq!(kind(ACCEPTED + 6), Err(Refusal::Unknown(ACCEPTED + 6)));
-        assert_eq!(byte(ACCEPTED + 256), Err(Refusal::Unknown(ACCEPTED + 256)));
-        assert_eq!(truth(u32::MAX), Err(Refusal::Unknown(u32::MAX)));
-    }
-
-    #[test]
-    fn accepted_answers_give_what_they_hold() {
-        assert_eq!(byte(ACCEPTED + 255), Ok(255));
-        assert_eq!(kind(ACCEPTED + 3), Ok(Kind::Stored));
-        assert_eq!(truth(ACCEPTED + 1), Ok(true));
-        assert_eq!(is_placed(ACCEPTED + 4), Ok(false));
-        assert_eq!(nothing(ACCEPTED), Ok(()));
+        for numbers in [
+            [0, 1, 0, 0, 0],
+            [5, 1, 1, 1, 1],
+            [1, 0, 0, 0, 0],
+            [1, 6, 0, 0, 0],
+            [2, 1, 0, 0, 0],
+        ] {
+            assert_eq!(answer(numbers), Err(Refusal::Unknown(0)));
+        }
     }
 }

@@ -1,41 +1,61 @@
-//! The functions of `include/mpc106.h`.
+//! The functions of the archive, as `include/mpc106.h` declares them, for those who want numbers rather than
+//! enums. A slice is lent as a pointer and its length.
+//!
+//! Each returns 0 if the call is accepted, and otherwise the number of the refusal in the low byte and the bank that
+//! it is about in the next. What an accepted call gives is put in its last parameter: an answer is the number of its
+//! parts and four parts, each a kind; a place is 1, bank, row, column and cell, or five zeros if there is no bank.
+//!
+//! # Safety
+//!
+//! Each pointer must point to as many bytes as the length behind it says, and nothing that a call may change may overlap
+//! anything else that it is lent.
 
 extern "C" {
-    pub fn mpc106_fresh(record: *mut u8);
-    pub fn mpc106_judge(record: *const u8) -> u32;
-    pub fn mpc106_register_read(record: *const u8, offset: u8) -> u32;
-    pub fn mpc106_register_write(record: *mut u8, offset: u8, value: u8) -> u32;
-    pub fn mpc106_map(record: *const u8, address: u32, place: *mut u32) -> u32;
-    pub fn mpc106_way_back(
-        record: *const u8,
-        bank: u8,
+    pub fn mpc106_raw_fresh(registers: &mut [u8; 256]);
+    pub fn mpc106_raw_judge(registers: &[u8; 256]) -> u32;
+    pub fn mpc106_raw_cell_count(registers: &[u8; 256], count: &mut [u32; 1]) -> u32;
+    pub fn mpc106_raw_register_read(registers: &[u8; 256], offset: u32, value: &mut [u8; 1])
+        -> u32;
+    pub fn mpc106_raw_register_write(registers: &mut [u8; 256], offset: u32, value: u8) -> u32;
+    pub fn mpc106_raw_map(registers: &[u8; 256], address: u32, place: &mut [u32; 5]) -> u32;
+    pub fn mpc106_raw_way_back(
+        registers: &[u8; 256],
+        bank: u32,
         row: u32,
         column: u32,
-        address: *mut u32,
+        address: &mut [u32; 1],
     ) -> u32;
-    pub fn mpc106_alike(first: *const u8, second: *const u8) -> u32;
-    pub fn mpc106_read(
-        record: *mut u8,
+    pub fn mpc106_raw_alike(first: &[u8; 256], second: &[u8; 256], alike: &mut [u32; 1]) -> u32;
+    pub fn mpc106_raw_read(
+        registers: &mut [u8; 256],
         cells: *const u8,
         cells_length: usize,
         address: u32,
         buffer: *mut u8,
         buffer_length: usize,
+        answer: &mut [u32; 5],
     ) -> u32;
-    pub fn mpc106_write(
-        record: *mut u8,
+    pub fn mpc106_raw_write(
+        registers: &mut [u8; 256],
         cells: *mut u8,
         cells_length: usize,
         address: u32,
         bytes: *const u8,
         bytes_length: usize,
+        answer: &mut [u32; 5],
     ) -> u32;
-    pub fn mpc106_flip(
-        record: *mut u8,
+    pub fn mpc106_raw_flip(
+        registers: &[u8; 256],
         cells: *mut u8,
         cells_length: usize,
         address: u32,
-        bit: u8,
+        bit: u32,
     ) -> u32;
-    pub fn mpc106_scrub(record: *mut u8, cells: *mut u8, cells_length: usize, address: u32) -> u32;
+    pub fn mpc106_raw_scrub(
+        registers: &mut [u8; 256],
+        cells: *mut u8,
+        cells_length: usize,
+        address: u32,
+        answer: &mut [u32; 5],
+    ) -> u32;
 }

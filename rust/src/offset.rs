@@ -2,47 +2,47 @@
 //!
 //! Those up to [`BANK_ENABLE`], and the row codes, can be written only while memory is off.
 
-/// The start of bank 0 in megabytes, low eight bits; bank n at n more.
-pub const START: u8 = 0x80;
+/// The start of bank 0 in megabytes, low eight bits; that of bank n is n further on.
+pub const START: u32 = 0x80;
 
-/// Bits 8 and 9 of the start of bank 0, a value of 0 to 3; bank n at n more.
-pub const START_EXTENDED: u8 = 0x88;
+/// Bits 8 and 9 of the start of bank 0, a value of 0 to 3; that of bank n is n further on.
+pub const START_EXTENDED: u32 = 0x88;
 
-/// The last megabyte of bank 0, inclusive, low eight bits; bank n at n more.
-pub const END: u8 = 0x90;
+/// The last megabyte of bank 0, inclusive, low eight bits; that of bank n is n further on.
+pub const END: u32 = 0x90;
 
-/// Bits 8 and 9 of the last megabyte of bank 0, a value of 0 to 3; bank n at n more.
-pub const END_EXTENDED: u8 = 0x98;
+/// Bits 8 and 9 of the last megabyte of bank 0, a value of 0 to 3; that of bank n is n further on.
+pub const END_EXTENDED: u32 = 0x98;
 
 /// Bit n enables bank n.
-pub const BANK_ENABLE: u8 = 0xa0;
+pub const BANK_ENABLE: u32 = 0xa0;
 
 /// Each [`Kind::Corrected`](crate::Kind::Corrected) raises it by one, stopping at 255.
-pub const SINGLE_BIT_COUNTER: u8 = 0xb8;
+pub const SINGLE_BIT_COUNTER: u32 = 0xb8;
 
-/// What the counter rises to for bit 2 of [`ERROR_DETECTION_1`].
-pub const SINGLE_BIT_TRIGGER: u8 = 0xb9;
+/// The value of the counter at which bit 2 of [`ERROR_DETECTION_1`] is set.
+pub const SINGLE_BIT_TRIGGER: u32 = 0xb9;
 
 /// Bits 5 and 2 let the same bits of [`ERROR_DETECTION_1`] be set; its other bits do nothing.
-pub const ERROR_ENABLE_1: u8 = 0xc0;
+pub const ERROR_ENABLE_1: u32 = 0xc0;
 
-/// Bit 5: no bank held an address. Bit 2: the counter rose and was then equal to the trigger. Writing a 1
+/// Bit 5: a read, write or scrub found no bank. Bit 2: the counter rose and was then equal to the trigger. Writing a 1
 /// clears that bit.
-pub const ERROR_DETECTION_1: u8 = 0xc1;
+pub const ERROR_DETECTION_1: u32 = 0xc1;
 
 /// Bit 3 lets the same bit of [`ERROR_DETECTION_2`] be set; its other bits do nothing.
-pub const ERROR_ENABLE_2: u8 = 0xc4;
+pub const ERROR_ENABLE_2: u32 = 0xc4;
 
 /// Bit 3: a doubleword was uncorrectable. Writing a 1 clears that bit.
-pub const ERROR_DETECTION_2: u8 = 0xc5;
+pub const ERROR_DETECTION_2: u32 = 0xc5;
 
-/// The lowest of four bytes, read only: the address of the last call that set a bit of
-/// [`ERROR_DETECTION_1`] or [`ERROR_DETECTION_2`] while both were zero.
-pub const ERROR_ADDRESS: u8 = 0xc8;
+/// The lowest of four bytes, read only: the address, as it was given, of the last call that set a bit of
+/// [`ERROR_DETECTION_1`] or [`ERROR_DETECTION_2`] while all bits of both were zero.
+pub const ERROR_ADDRESS: u32 = 0xc8;
 
-/// Two bits a bank, banks 0 to 3 from the low end; those of banks 4 to 7 are at the next offset. Codes 0,
+/// Two bits for each bank, banks 0 to 3 from the low end; those of banks 4 to 7 are at the next offset. Codes 0,
 /// 1, 2, 3 mean 9, 10, 11, 12 row bits.
-pub const ROW_CODES: u8 = 0xf0;
+pub const ROW_CODES: u32 = 0xf0;
 
 /// Bit 3 switches memory on: write 8 for on, 0 for off, and no other value.
-pub const MEMORY: u8 = 0xf2;
+pub const MEMORY: u32 = 0xf2;

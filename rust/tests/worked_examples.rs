@@ -1,21 +1,21 @@
-//! The worked examples of document 01, through the wrapper.
-use mpc106::{Column, Kind, Place, Refusal, Registers, Row, CELL_BYTES};
+//! The worked examples EX-1 to EX-9, through the wrapper.
+use mpc106::{Answer, Column, Kind, Memory, Place, Record, Refusal, Row, CELL_BYTES};
 
-/// A record with these registers written, in order; each write is to be accepted.
-fn with(writes: &[(u8, u8)]) -> Registers {
-    let mut registers = Registers::fresh();
+/// A record with these registers written, in order; each write must be accepted.
+fn with(writes: &[(u32, u8)]) -> Record {
+    let mut record = Record::fresh();
     for &(offset, value) in writes {
         assert_eq!(
-            registers.write_register(offset, value),
+            record.write_register(offset, value),
             Ok(()),
             "{offset:02x} = {value:02x}"
         );
     }
-    registers
+    record
 }
 
-/// Bank 0: MB 0 to 1, R 9. Bank 1: MB 2 to 4, R 10. Memory on.
-fn two_banks() -> Registers {
+/// EX-3, switched on.
+fn two_banks() -> Record {
     with(&[
         (0x90, 1),
         (0x81, 2),
@@ -27,8 +27,16 @@ fn two_banks() -> Registers {
 }
 
 /// Bank 0 with a row code and its last megabyte, not switched on.
-fn one_bank(row_code: u8, last: u8) -> Registers {
+fn one_bank(row_code: u8, last: u8) -> Record {
     with(&[(0x90, last), (0xf0, row_code), (0xa0, 1)])
+}
+
+/// The kind of an answer that has one part.
+fn kind(answer: Result<Answer, Refusal>) -> Result<Kind, Refusal> {
+    answer.map(|answer| {
+        assert_eq!(answer.parts().len(), 1);
+        answer.kind()
+    })
 }
 
 fn cells(count: usize) -> Vec<u8> {
@@ -37,15 +45,18 @@ fn cells(count: usize) -> Vec<u8> {
 
 #[test]
 fn fresh_is_all_zero() {
-    assert_eq!(Registers::fresh().0, [0; 256]);
-    assert_eq!(Registers::default(), Registers::fresh());
+    assert_eq!(Record::fresh().registers, [0; 256]);
+    assert_eq!(Record::default(), Record::fresh());
 }
 
 #[test]
 fn check_bytes() {
     let of = |bytes: [u8; 8]| {
         let mut cells = cells(1);
-        assert_eq!(two_banks().write(&mut cells, 0, &bytes), Ok(Kind::Stored));
+        assert_eq!(
+            kind(two_banks().write(&mut cells, 0, &bytes)),
+            Ok(Kind::Stored)
+        );
         assert_eq!(cells[..8], bytes);
         cells[8]
     };
@@ -58,14 +69,14 @@ fn check_bytes() {
 
 #[test]
 fn syndromes() {
-    // Of data that is all zero the check byte is 00, so the stored check byte is the syndrome.
+    // If all data is zero the check byte is 00, so the stored check byte is the syndrome.
     let of = |syndrome: u8| {
         let mut cells = cells(1);
         cells[8] = syndrome;
-        let mut registers = two_banks();
+        let mut record = two_banks();
         let mut buffer = [0xee; 8];
-        let answer = registers.read(&cells, 0, &mut buffer);
-        let scrubbed = registers.scrub(&mut cells, 0);
+        let answer = kind(record.read(&cells, 0, &mut buffer));
+        let scrubbed = kind(record.scrub(&mut cells, 0));
         assert_eq!(scrubbed, answer);
         (answer, buffer, cells[8])
     };
@@ -89,43 +100,37 @@ fn map() {
             cell,
         }))
     };
-    let registers = two_banks();
-    assert_eq!(registers.map(0x0000_1008), place(0, 1, 1, 513));
-    assert_eq!(registers.map(0x0020_0000), place(1, 512, 0, 524_288));
-    assert_eq!(registers.map(0x0040_0000), place(1, 0, 0, 262_144));
-    assert_eq!(registers.map(0x0050_0000), Ok(None));
-    assert_eq!(registers.map(0xffff_ffff), Ok(None));
-    assert_eq!(Registers::fresh().map(0), Err(Refusal::NotReady));
+    let record = two_banks();
+    assert_eq!(record.map(0x0000_1008), place(0, 1, 1, 513));
+    assert_eq!(record.map(0x0020_0000), place(1, 512, 0, 524_288));
+    assert_eq!(record.map(0x0040_0000), place(1, 0, 0, 262_144));
+    assert_eq!(record.map(0x0050_0000), Ok(None));
+    assert_eq!(record.map(0xffff_ffff), Ok(None));
+    assert_eq!(Record::fresh().map(0), Err(Refusal::NotReady));
 }
 
 #[test]
 fn way_back() {
-    let registers = two_banks();
-    assert_eq!(registers.way_back(0, Row(1), Column(1)), Ok(0x0000_1008));
-    assert_eq!(registers.way_back(1, Row(512), Column(0)), Ok(0x0020_0000));
-    assert_eq!(registers.way_back(1, Row(0), Column(0)), Ok(0x0040_0000));
+    let record = two_banks();
+    assert_eq!(record.way_back(0, Row(1), Column(1)), Ok(0x0000_1008));
+    assert_eq!(record.way_back(1, Row(512), Column(0)), Ok(0x0020_0000));
+    assert_eq!(record.way_back(1, Row(0), Column(0)), Ok(0x0040_0000));
     assert_eq!(
-        registers.way_back(1, Row(256), Column(0)),
+        record.way_back(1, Row(256), Column(0)),
         Err(Refusal::NoAddress)
     );
+    assert_eq!(record.way_back(2, Row(0), Column(0)), Err(Refusal::BankOff));
+    assert_eq!(record.way_back(8, Row(0), Column(0)), Err(Refusal::BankOff));
     assert_eq!(
-        registers.way_back(2, Row(0), Column(0)),
-        Err(Refusal::BankOff)
-    );
-    assert_eq!(
-        registers.way_back(8, Row(0), Column(0)),
-        Err(Refusal::BankOff)
-    );
-    assert_eq!(
-        registers.way_back(0, Row(512), Column(0)),
+        record.way_back(0, Row(512), Column(0)),
         Err(Refusal::RowOrColumnTooLarge)
     );
     assert_eq!(
-        registers.way_back(0, Row(0), Column(u32::MAX)),
+        record.way_back(0, Row(0), Column(u32::MAX)),
         Err(Refusal::RowOrColumnTooLarge)
     );
     assert_eq!(
-        Registers::fresh().way_back(0, Row(0), Column(0)),
+        Record::fresh().way_back(0, Row(0), Column(0)),
         Err(Refusal::NotReady)
     );
 }
@@ -140,12 +145,9 @@ fn lengths_that_fit() {
 
 #[test]
 fn switching_on_is_judged() {
-    let mut registers = Registers::fresh();
-    assert_eq!(
-        registers.write_register(0xf2, 8),
-        Err(Refusal::NoBankEnabled)
-    );
-    assert_eq!(registers, Registers::fresh());
+    let mut record = Record::fresh();
+    assert_eq!(record.write_register(0xf2, 8), Err(Refusal::NoBankEnabled));
+    assert_eq!(record, Record::fresh());
     assert_eq!(
         with(&[(0x85, 3), (0x95, 2), (0xa0, 0x20)]).judge(),
         Err(Refusal::StartAboveEnd(5))
@@ -158,50 +160,44 @@ fn switching_on_is_judged() {
 #[test]
 fn switching_on_refuses_bank_by_bank() {
     // Bank 0 is too long, bank 1 starts above its end, and banks 2 and 3 meet bank 0.
-    let mut registers = with(&[(0x90, 2), (0x81, 5), (0x91, 4), (0xa0, 0x0f)]);
-    assert_eq!(registers.judge(), Err(Refusal::TooLong(0)));
-    assert_eq!(registers.write_register(0x90, 1), Ok(()));
-    assert_eq!(registers.judge(), Err(Refusal::StartAboveEnd(1)));
-    assert_eq!(registers.write_register(0x91, 5), Ok(()));
-    assert_eq!(registers.judge(), Err(Refusal::Overlap(2)));
+    let mut record = with(&[(0x90, 2), (0x81, 5), (0x91, 4), (0xa0, 0x0f)]);
+    assert_eq!(record.judge(), Err(Refusal::TooLong(0)));
+    assert_eq!(record.write_register(0x90, 1), Ok(()));
+    assert_eq!(record.judge(), Err(Refusal::StartAboveEnd(1)));
+    assert_eq!(record.write_register(0x91, 5), Ok(()));
+    assert_eq!(record.judge(), Err(Refusal::Overlap(2)));
 }
 
 #[test]
 fn register_refusals() {
-    let mut registers = two_banks();
-    let before = registers;
-    assert_eq!(registers.read_register(0x00), Err(Refusal::UnlistedOffset));
+    let mut record = two_banks();
+    let before = record;
+    assert_eq!(record.read_register(0x00), Err(Refusal::UnlistedOffset));
+    assert_eq!(record.write_register(0xa1, 0), Err(Refusal::UnlistedOffset));
+    assert_eq!(record.write_register(0xc8, 0), Err(Refusal::ReadOnly));
     assert_eq!(
-        registers.write_register(0xa1, 0),
-        Err(Refusal::UnlistedOffset)
-    );
-    assert_eq!(registers.write_register(0xc8, 0), Err(Refusal::ReadOnly));
-    assert_eq!(
-        registers.write_register(0x88, 4),
+        record.write_register(0x88, 4),
         Err(Refusal::ValueOutOfRange)
     );
     assert_eq!(
-        registers.write_register(0xf2, 9),
+        record.write_register(0xf2, 9),
         Err(Refusal::ValueOutOfRange)
     );
-    assert_eq!(
-        registers.write_register(0xa0, 1),
-        Err(Refusal::LockedWhileOn)
-    );
-    assert_eq!(registers, before);
-    assert_eq!(registers.read_register(0x91), Ok(4));
+    assert_eq!(record.write_register(0xa0, 1), Err(Refusal::LockedWhileOn));
+    assert_eq!(record, before);
+    assert_eq!(record.read_register(0x91), Ok(4));
 }
 
 #[test]
 fn a_one_clears_a_detection_bit() {
-    let mut registers = two_banks();
-    registers.0[0xc1] = 0x24;
-    assert_eq!(registers.write_register(0xc1, 0x20), Ok(()));
-    assert_eq!(registers.read_register(0xc1), Ok(0x04));
+    let mut record = two_banks();
+    record.registers[0xc1] = 0x24;
+    assert_eq!(record.write_register(0xc1, 0x20), Ok(()));
+    assert_eq!(record.read_register(0xc1), Ok(0x04));
 }
 
-/// Two banks with one cell lent, and of the next all but its last byte.
-fn partly_lent() -> (Registers, Vec<u8>) {
+/// Two banks with one cell lent, and all of the next but its last byte.
+fn partly_lent() -> (Record, Vec<u8>) {
     let mut lent = cells(2);
     lent.pop();
     (two_banks(), lent)
@@ -209,23 +205,23 @@ fn partly_lent() -> (Registers, Vec<u8>) {
 
 #[test]
 fn a_refused_read_leaves_everything() {
-    let (mut registers, lent) = partly_lent();
-    let before = registers;
+    let (mut record, lent) = partly_lent();
+    let before = record;
     let mut buffer = [0xee; 9];
-    let mut refused = |address, count| registers.read(&lent, address, &mut buffer[..count]);
+    let mut refused = |address, count| record.read(&lent, address, &mut buffer[..count]);
     assert_eq!(refused(0, 0), Err(Refusal::CountOutOfRange));
     assert_eq!(refused(0, 9), Err(Refusal::CountOutOfRange));
     assert_eq!(refused(7, 2), Err(Refusal::CrossesDoubleword));
     assert_eq!(refused(8, 2), Err(Refusal::NotLent));
-    assert_eq!(registers, before);
+    assert_eq!(record, before);
     assert_eq!(buffer, [0xee; 9]);
 }
 
 #[test]
 fn a_refused_write_leaves_everything() {
-    let (mut registers, mut lent) = partly_lent();
-    let before = (registers, lent.clone());
-    let mut refused = |address, bytes: &[u8]| registers.write(&mut lent, address, bytes);
+    let (mut record, mut lent) = partly_lent();
+    let before = (record, lent.clone());
+    let mut refused = |address, bytes: &[u8]| record.write(&mut lent, address, bytes);
     assert_eq!(refused(0, &[]), Err(Refusal::CountOutOfRange));
     assert_eq!(refused(0, &[0; 9]), Err(Refusal::CountOutOfRange));
     assert_eq!(refused(1, &[0; 8]), Err(Refusal::CrossesDoubleword));
@@ -234,71 +230,74 @@ fn a_refused_write_leaves_everything() {
         Err(Refusal::CrossesDoubleword)
     );
     assert_eq!(refused(8, &[1]), Err(Refusal::NotLent));
-    assert_eq!((registers, lent), before);
+    assert_eq!((record, lent), before);
 }
 
 #[test]
 fn a_refused_flip_or_scrub_leaves_everything() {
-    let (mut registers, mut lent) = partly_lent();
-    let before = (registers, lent.clone());
-    let mut refused = |address, bit| registers.flip(&mut lent, address, bit);
+    let (mut record, mut lent) = partly_lent();
+    let before = (record, lent.clone());
+    let mut refused = |address, bit| record.flip(&mut lent, address, bit);
     assert_eq!(refused(0, 72), Err(Refusal::BitOutOfRange));
     assert_eq!(refused(8, 0), Err(Refusal::NotLent));
     assert_eq!(refused(0x0050_0000, 0), Err(Refusal::FlipWithoutBank));
-    assert_eq!(registers.scrub(&mut lent, 8), Err(Refusal::NotLent));
-    assert_eq!(registers.scrub(&mut [], 0), Err(Refusal::NotLent));
-    assert_eq!((registers, lent), before);
+    assert_eq!(record.scrub(&mut lent, 8), Err(Refusal::NotLent));
+    assert_eq!(record.scrub(&mut [], 0), Err(Refusal::NotLent));
+    assert_eq!((record, lent), before);
 }
 
 #[test]
 fn switched_off_comes_first() {
-    let mut off = Registers::fresh();
+    let mut off = Record::fresh();
     assert_eq!(off.read(&[], 7, &mut []), Err(Refusal::NotReady));
-    assert_eq!(off, Registers::fresh());
+    assert_eq!(off, Record::fresh());
 }
 
 #[test]
 fn no_bank_is_reported_once() {
-    let mut registers = two_banks();
+    let mut record = two_banks();
     let mut lent = cells(1);
-    assert_eq!(registers.write_register(0xc0, 0x20), Ok(()));
+    assert_eq!(record.write_register(0xc0, 0x20), Ok(()));
     let mut buffer = [0; 3];
     assert_eq!(
-        registers.read(&lent, 0x1234_5678, &mut buffer),
+        kind(record.read(&lent, 0x1234_5678, &mut buffer)),
         Ok(Kind::NoBank)
     );
     assert_eq!(buffer, [0xff; 3]);
-    assert_eq!(registers.read_register(0xc1), Ok(0x20));
-    assert_eq!(registers.0[0xc8..=0xcb], [0x78, 0x56, 0x34, 0x12]);
+    assert_eq!(record.read_register(0xc1), Ok(0x20));
+    assert_eq!(record.registers[0xc8..=0xcb], [0x78, 0x56, 0x34, 0x12]);
     assert_eq!(
-        registers.write(&mut lent, 0xffff_fff8, &[1; 8]),
+        kind(record.write(&mut lent, 0xffff_fff8, &[1; 8])),
         Ok(Kind::NoBank)
     );
-    assert_eq!(registers.0[0xc8..=0xcb], [0x78, 0x56, 0x34, 0x12]);
+    assert_eq!(record.registers[0xc8..=0xcb], [0x78, 0x56, 0x34, 0x12]);
     assert_eq!(lent, cells(1));
 }
 
 #[test]
 fn short_writes_merge_into_corrected_data() {
-    let mut registers = two_banks();
+    let mut record = two_banks();
     let mut lent = cells(1);
     assert_eq!(
-        registers.write(&mut lent, 0, &[1, 2, 3, 4, 5, 6, 7, 8]),
+        kind(record.write(&mut lent, 0, &[1, 2, 3, 4, 5, 6, 7, 8])),
         Ok(Kind::Stored)
     );
-    assert_eq!(registers.flip(&mut lent, 0, 0), Ok(Kind::Flipped));
-    assert_eq!(registers.write(&mut lent, 3, &[0xaa]), Ok(Kind::Corrected));
-    assert_eq!(registers.read_register(0xb8), Ok(1));
+    assert_eq!(record.flip(&mut lent, 0, 0), Ok(()));
+    assert_eq!(
+        kind(record.write(&mut lent, 3, &[0xaa])),
+        Ok(Kind::Corrected)
+    );
+    assert_eq!(record.read_register(0xb8), Ok(1));
     let mut buffer = [0; 8];
-    assert_eq!(registers.read(&lent, 0, &mut buffer), Ok(Kind::Clean));
+    assert_eq!(kind(record.read(&lent, 0, &mut buffer)), Ok(Kind::Clean));
     assert_eq!(buffer, [1, 2, 3, 0xaa, 5, 6, 7, 8]);
 }
 
 #[test]
 fn alike() {
-    let registers = two_banks();
-    assert_eq!(registers.is_alike(&registers), Ok(true));
-    // A bank that is off counts for nothing, whatever its registers hold.
+    let record = two_banks();
+    assert_eq!(record.is_alike(&record), Ok(true));
+    // A disabled bank has no effect, whatever its registers hold.
     let other = with(&[
         (0x90, 1),
         (0x81, 2),
@@ -308,7 +307,7 @@ fn alike() {
         (0xa0, 3),
         (0xf2, 8),
     ]);
-    assert_eq!(registers.is_alike(&other), Ok(true));
+    assert_eq!(record.is_alike(&other), Ok(true));
     let shorter = with(&[
         (0x90, 1),
         (0x81, 2),
@@ -317,39 +316,69 @@ fn alike() {
         (0xa0, 3),
         (0xf2, 8),
     ]);
-    assert_eq!(registers.is_alike(&shorter), Ok(false));
+    assert_eq!(record.is_alike(&shorter), Ok(false));
+    assert_eq!(record.is_alike(&Record::fresh()), Err(Refusal::NotReady));
+    assert_eq!(Record::fresh().is_alike(&record), Err(Refusal::NotReady));
+}
+
+/// Numbers that would be in range if they were cut to a byte.
+#[test]
+fn wide_numbers_are_not_cut() {
+    let (mut record, mut lent) = partly_lent();
+    let before = (record, lent.clone());
+    assert_eq!(record.flip(&mut lent, 0, 261), Err(Refusal::BitOutOfRange));
+    assert_eq!(record.read_register(0x190), Err(Refusal::UnlistedOffset));
     assert_eq!(
-        registers.is_alike(&Registers::fresh()),
-        Err(Refusal::NotReady)
+        record.write_register(0x1b9, 0),
+        Err(Refusal::UnlistedOffset)
     );
     assert_eq!(
-        Registers::fresh().is_alike(&registers),
-        Err(Refusal::NotReady)
+        record.way_back(256, Row(0), Column(0)),
+        Err(Refusal::BankOff)
     );
+    assert_eq!((record, lent), before);
+}
+
+#[test]
+fn a_memory_has_the_cells_of_its_banks() {
+    assert_eq!(Record::fresh().cell_count(), Err(Refusal::NotReady));
+    assert_eq!(Memory::new(Record::fresh()), Err(Refusal::NotReady));
+    assert_eq!(two_banks().cell_count(), Ok((1 << 18) + (1 << 19)));
+    let mut memory = Memory::new(two_banks()).expect("memory is on");
+    assert_eq!(memory.cells, cells((1 << 18) + (1 << 19)));
+    assert_eq!(kind(memory.write(0x40_0000, &[7; 8])), Ok(Kind::Stored));
+    assert_eq!(memory.flip(0x40_0000, 0), Ok(()));
+    let mut byte = [0];
+    assert_eq!(kind(memory.read(0x40_0001, &mut byte)), Ok(Kind::Corrected));
+    assert_eq!(byte, [7]);
+    assert_eq!(kind(memory.scrub(0x40_0007)), Ok(Kind::Corrected));
+    assert_eq!(kind(memory.scrub(0x40_0007)), Ok(Kind::Clean));
+    let mut fewer = Memory::with_cells(memory.record, cells(1));
+    assert_eq!(fewer.scrub(0x40_0007), Err(Refusal::NotLent));
 }
 
 #[test]
 fn the_list_of_the_line_program() {
-    let mut registers = with(&[(0x90, 1), (0xa0, 1), (0xf2, 8)]);
+    let mut record = with(&[(0x90, 1), (0xa0, 1), (0xf2, 8)]);
     let mut lent = cells(7280);
     let data = [0x80, 0, 0, 0, 0, 0, 0, 0];
-    assert_eq!(registers.write(&mut lent, 0x10, &data), Ok(Kind::Stored));
-    assert_eq!(registers.flip(&mut lent, 0x10, 2), Ok(Kind::Flipped));
+    assert_eq!(kind(record.write(&mut lent, 0x10, &data)), Ok(Kind::Stored));
+    assert_eq!(record.flip(&mut lent, 0x10, 2), Ok(()));
     let mut buffer = [0; 8];
     assert_eq!(
-        registers.read(&lent, 0x10, &mut buffer),
+        kind(record.read(&lent, 0x10, &mut buffer)),
         Ok(Kind::Corrected)
     );
     assert_eq!(buffer, data);
-    assert_eq!(registers.read_register(0xb8), Ok(1));
+    assert_eq!(record.read_register(0xb8), Ok(1));
     let mut one = [0];
     assert_eq!(
-        registers.read(&lent, 0x0020_0000, &mut one),
+        kind(record.read(&lent, 0x0020_0000, &mut one)),
         Ok(Kind::NoBank)
     );
     assert_eq!(one, [0xff]);
     assert_eq!(
-        registers.read(&lent, 7, &mut [0; 2]),
+        record.read(&lent, 7, &mut [0; 2]),
         Err(Refusal::CrossesDoubleword)
     );
 }

@@ -1,7 +1,6 @@
 pub mod Setup
-pub mod Fields
+pub mod CodeFields
 pub mod Judge
 pub mod Map
 pub mod WayBack
-pub mod Alike
-pub mod Megabyte
+pub mod CodeSelection

@@ -2,46 +2,28 @@
 ghost use mathlib.Core.Path.{_≡_};
 ghost use Prim.Native.Nat.{_+_, _/_, _^_, _≤_, _<_};
 ghost use Rattle.banks.specs.Setup.{Bounded, bank};
-ghost use Rattle.banks.specs.Fields.{Sound, setupIn};
-ghost use Rattle.banks.specs.Map.{paperMapping, holds, bankAt, cells, share, cellsBelow, wordOf, placeOf, mapped};
+ghost use Rattle.banks.specs.CodeFields.{TenBits, setupIn};
+ghost use Rattle.banks.specs.Map.{paperMapping, mostCells, mostCellsInAll, cells, share, cellsBelow, cellInBank, placeOf, mapped, paperTarget, cellOf, paperCount, cellCount};
+ghost use Rattle.banks.specs.Judge.{notReady};
+ghost use Rattle.refusals.specs.Paper.{_gives_};
+use crate::Bank;
+use crate::CellCount;
 use crate::Column;
 use crate::Mapping;
 use crate::Place;
 use crate::Row;
-use crate::setup::Bank;
+use crate::Target;
+use crate::selecting::Selection;
+use crate::selecting::select;
+use crate::setup::FIELDS;
 use crate::setup::bank_of;
+use crate::setup::power;
 use refusals::Refusal;
 
-// 2 to the power k.
-pub(crate) fn power(k: u32) -> u32
-    requires { ⌜ k < 32 ⌝ }
-    ensures { λ r. ⌜ r ≡ 2 ^ k ⌝ }
-{
-    1u32 << k
-}
-
-fn holds_megabyte(b: Bank, mb: u32) -> bool
-    ensures { λ t. ⌜ t ≡ holds mb b ⌝ }
-{
-    b.enabled & ((b.start <= mb) & (mb <= b.last))
-}
-
-pub(crate) fn bank_at(fields: &[u16; 19], mb: u32) -> u8
-    requires { ⌜ Sound (now fields) ⌝ }
-    ensures { λ n. ⌜ n ≡ bankAt (setupIn (now (fields .entry))) mb ⌝ }
-{
-    for n in 0..8u8 {
-        if holds_megabyte(bank_of(fields, n), mb) {
-            return n;
-        }
-    }
-    8
-}
-
-pub(crate) fn cell_count(b: Bank) -> u32
+pub(crate) fn cells_in_bank(b: Bank) -> u32
     requires { ⌜ Bounded b ⌝ }
     ensures { λ k. ⌜ k ≡ cells b ⌝ }
-    ensures bound { λ k. ⌜ (0 < k) × (k ≤ 2 ^ 24) ⌝ }
+    ensures bound { λ k. ⌜ (0 < k) × (k ≤ mostCells) ⌝ }
 {
     power(b.rows + b.columns)
 }
@@ -49,15 +31,15 @@ pub(crate) fn cell_count(b: Bank) -> u32
 fn share_of(b: Bank) -> u32
     requires { ⌜ Bounded b ⌝ }
     ensures { λ k. ⌜ k ≡ share b ⌝ }
-    ensures bound { λ k. ⌜ k ≤ 2 ^ 24 ⌝ }
+    ensures bound { λ k. ⌜ k ≤ mostCells ⌝ }
 {
-    if b.enabled { cell_count(b) } else { 0 }
+    if b.enabled { cells_in_bank(b) } else { 0 }
 }
 
-fn cells_below(fields: &[u16; 19], n: u8) -> u32
-    requires { ⌜ Sound (now fields) × (n ≤ 8) ⌝ }
+fn cells_below(fields: &[u16; FIELDS], n: u8) -> u32
+    requires { ⌜ TenBits (now fields) × (n ≤ 8) ⌝ }
     ensures { λ k. ⌜ k ≡ cellsBelow (setupIn (now (fields .entry))) n ⌝ }
-    ensures bound { λ k. ⌜ k ≤ 2 ^ 27 ⌝ }
+    ensures bound { λ k. ⌜ k ≤ mostCellsInAll ⌝ }
 {
     let mut k: u32 = 0;
     for m in 0..n {
@@ -66,40 +48,64 @@ fn cells_below(fields: &[u16; 19], n: u8) -> u32
     k
 }
 
-// The number of an address's doubleword within its bank: of the address itself, not of its distance from the start.
-pub(crate) fn word(b: Bank, address: u32) -> u32
+// MAP-3: the number of an address's cell within its bank, from the whole address and not from its distance to the bank's start.
+pub(crate) fn cell_in_bank(b: Bank, address: u32) -> u32
     requires { ⌜ Bounded b ⌝ }
-    ensures { λ w. ⌜ w ≡ wordOf b address ⌝ }
-    ensures bound { λ w. ⌜ w < 2 ^ 24 ⌝ }
+    ensures { λ w. ⌜ w ≡ cellInBank b address ⌝ }
+    ensures bound { λ w. ⌜ w < mostCells ⌝ }
 {
-    address >> 3 & (cell_count(b) - 1)
+    address >> 3 & (cells_in_bank(b) - 1)
 }
 
-fn place_in(fields: &[u16; 19], n: u8, address: u32) -> Place
-    requires { ⌜ Sound (now fields) × (n < 8) ⌝ }
+// The place of an address in bank n, whose first cell is cell number `base`.
+fn place_in(fields: &[u16; FIELDS], n: u32, base: u32, address: u32) -> Place
+    requires { ⌜ TenBits (now fields) × (n < 8) × (base ≡ cellsBelow (setupIn (now fields)) n) ⌝ }
     ensures { λ p. ⌜ p ≡ placeOf (setupIn (now (fields .entry))) n address ⌝ }
 {
-    let b = bank_of(fields, n);
-    let w = word(b, address);
+    let b = bank_of(fields, n as u8);
+    let w = cell_in_bank(b, address);
     let columns = b.columns;
     Place {
-        bank: n,
+        bank: n as u8,
         row: Row(w >> columns),
         column: Column(w & (power(columns) - 1)),
-        cell: cells_below(fields, n) + w,
+        cell: base + w,
     }
 }
 
-pub(crate) fn map_address(fields: &[u16; 19], address: u32) -> Mapping
-    requires { ⌜ Sound (now fields) ⌝ }
+pub(crate) fn map_address(fields: &[u16; FIELDS], address: u32) -> Mapping
+    requires { ⌜ TenBits (now fields) ⌝ }
     ensures { λ m. ⌜ paperMapping m ≡ mapped (setupIn (now (fields .entry))) address ⌝ }
 {
-    if !crate::judging::is_ready(fields) {
-        return Mapping::Refused(Refusal::NotReady);
+    let selection = select(fields, address >> 20);
+    match selection {
+        Selection::NotReady => Mapping::Refused(Refusal::NotReady),
+        Selection::NoBank => Mapping::NoBank,
+        Selection::Bank(n, base) => Mapping::At(place_in(fields, n, base, address)),
     }
-    let n = bank_at(fields, address >> 20);
-    if n < 8 {
-        return Mapping::At(place_in(fields, n, address));
+}
+
+pub(crate) fn cell_of(fields: &[u16; FIELDS], address: u32) -> Target
+    requires { ⌜ TenBits (now fields) ⌝ }
+    ensures { λ t. ⌜ paperTarget t ≡ (notReady (setupIn (now (fields .entry))) gives cellOf (setupIn (now (fields .entry))) address) ⌝ }
+{
+    let selection = select(fields, address >> 20);
+    match selection {
+        Selection::NotReady => Target::NotReady,
+        Selection::NoBank => Target::NoBank,
+        Selection::Bank(n, base) => {
+            let place = place_in(fields, n, base, address);
+            Target::Cell(place.cell)
+        }
     }
-    Mapping::NoBank
+}
+
+pub(crate) fn count(fields: &[u16; FIELDS]) -> CellCount
+    requires { ⌜ TenBits (now fields) ⌝ }
+    ensures { λ k. ⌜ paperCount k ≡ (notReady (setupIn (now (fields .entry))) gives cellCount (setupIn (now (fields .entry)))) ⌝ }
+{
+    if crate::judging::is_ready(fields) {
+        return CellCount::Cells(cells_below(fields, 8));
+    }
+    CellCount::NotReady
 }

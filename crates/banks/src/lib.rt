@@ -1,11 +1,10 @@
-// The banks of a record: when it may be switched on, the way from an address to a cell and back, and when two records are alike.
+// The banks of a record: when it may be switched on, the way from an address to a cell, and back.
 ghost use mathlib.Core.Path.{_≡_};
-ghost use Rattle.refusals.specs.Paper.{paperVerdict};
-ghost use Rattle.banks.specs.Setup.{setupOf};
-ghost use Rattle.banks.specs.Judge.{judged};
-ghost use Rattle.banks.specs.Map.{paperMapping, mapped};
+ghost use Rattle.refusals.specs.Paper.{paperVerdict, _gives_};
+ghost use Rattle.banks.specs.Setup.{setupOf, bank};
+ghost use Rattle.banks.specs.Judge.{judged, ready, notReady};
+ghost use Rattle.banks.specs.Map.{paperMapping, mapped, paperTarget, cellOf, paperCount, cellCount};
 ghost use Rattle.banks.specs.WayBack.{paperBack, back};
-ghost use Rattle.banks.specs.Alike.{paperComparison, compared};
 use refusals::Refusal;
 use refusals::Verdict;
 use registers::Registers;
@@ -13,14 +12,22 @@ use registers::Registers;
 mod addressing;
 mod inverse;
 mod judging;
-mod likeness;
+mod selecting;
 mod setup;
 
 pub struct Row(pub u32);
 
 pub struct Column(pub u32);
 
-// Where a doubleword is kept.
+pub struct Bank {
+    pub enabled: bool,
+    pub start: u32,
+    pub last: u32,
+    pub rows: u32,
+    pub columns: u32,
+}
+
+// MAP-9: where a doubleword is kept. FORM-4: row and column are tuple structs.
 pub struct Place {
     pub bank: u8,
     pub row: Row,
@@ -28,27 +35,33 @@ pub struct Place {
     pub cell: u32,
 }
 
-// What the map of an address gives.
+// What the map returns.
 pub enum Mapping {
     Refused(Refusal),
     NoBank,
     At(Place),
 }
 
-// What the way back from bank, row and column gives.
+// MAP-6: the cell in which an address is kept.
+pub enum Target {
+    NotReady,
+    NoBank,
+    Cell(u32),
+}
+
+// MAP-7: how many cells the enabled banks have together.
+pub enum CellCount {
+    NotReady,
+    Cells(u32),
+}
+
+// What the way back returns.
 pub enum Origin {
     Refused(Refusal),
     Address(u32),
 }
 
-// What the comparison of two records gives.
-pub enum Comparison {
-    Refused(Refusal),
-    Alike,
-    Different,
-}
-
-// Memory is switched on.
+// REG-16: whether memory is on.
 pub fn is_on(r: Registers) -> bool
     ensures { λ t. ⌜ t ≡ setupOf r .on ⌝ }
 {
@@ -56,7 +69,7 @@ pub fn is_on(r: Registers) -> bool
     setup::memory_on(&fields)
 }
 
-// What switching the record on gets.
+// ON-8: what switching the record on would get.
 pub fn judge(r: Registers) -> Verdict
     ensures { λ v. ⌜ paperVerdict v ≡ judged (setupOf r) ⌝ }
 {
@@ -64,7 +77,7 @@ pub fn judge(r: Registers) -> Verdict
     judging::verdict(&fields)
 }
 
-// Bank, row, column and cell number of an address.
+// MAP-9: the map.
 pub fn map(r: Registers, address: u32) -> Mapping
     ensures { λ m. ⌜ paperMapping m ≡ mapped (setupOf r) address ⌝ }
 {
@@ -72,19 +85,45 @@ pub fn map(r: Registers, address: u32) -> Mapping
     addressing::map_address(&fields, address)
 }
 
-// The address of the doubleword at a row and a column of a bank.
-pub fn way_back(r: Registers, bank: u8, row: Row, column: Column) -> Origin
+// MAP-6: the cell number of an address.
+pub fn find_cell(r: Registers, address: u32) -> Target
+    ensures { λ t. ⌜ paperTarget t ≡ (notReady (setupOf r) gives cellOf (setupOf r) address) ⌝ }
+{
+    let fields = setup::fields_of(r);
+    addressing::cell_of(&fields, address)
+}
+
+// MAP-10: the number of cells of a record.
+pub fn cell_count(r: Registers) -> CellCount
+    ensures { λ k. ⌜ paperCount k ≡ (notReady (setupOf r) gives cellCount (setupOf r)) ⌝ }
+{
+    let fields = setup::fields_of(r);
+    addressing::count(&fields)
+}
+
+// BACK-1: the way back.
+pub fn way_back(r: Registers, bank: u32, row: Row, column: Column) -> Origin
     ensures { λ x. ⌜ paperBack x ≡ back (setupOf r) bank row column ⌝ }
 {
     let fields = setup::fields_of(r);
     inverse::origin_of(&fields, bank, row, column)
 }
 
-// Whether every address has the same bank, row and column, or no bank, in both records.
-pub fn compare(r: Registers, s: Registers) -> Comparison
-    ensures { λ x. ⌜ paperComparison x ≡ compared (setupOf r) (setupOf s) ⌝ }
+// ON-8: memory is on, and judging finds no fault.
+pub fn is_ready(r: Registers) -> bool
+    ensures { λ t. ⌜ t ≡ ready (setupOf r) ⌝ }
 {
     let fields = setup::fields_of(r);
-    let others = setup::fields_of(s);
-    likeness::comparison_of(&fields, &others)
+    judging::is_ready(&fields)
+}
+
+// Bank n of a record; a disabled bank if n is above 7.
+pub fn decode_bank(r: Registers, n: u32) -> Bank
+    ensures { λ b. ⌜ b ≡ bank (setupOf r) n ⌝ }
+{
+    let fields = setup::fields_of(r);
+    if n < 8 {
+        return setup::bank_of(&fields, n as u8);
+    }
+    setup::off_bank()
 }

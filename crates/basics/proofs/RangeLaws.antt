@@ -1,5 +1,4 @@
 -- Laws of `first`, for loops that look for a number, of `every`, and of `sum`, for loops that add up.
--- Assumes nothing.
 use mathlib.Core.Path.{_≡_, refl, sym, subst, _∙_}
 use lib.Dec.{T, ltb}
 use borrow.Author.Tests.{ltb-true, ltb-false}
@@ -31,10 +30,14 @@ pub sum-more : (f : ℕ → ℕ) (n : ℕ) → sum f (n + 1) ≡ sum f n + f n
 unfolding sum
 sum-more f n = rw add-one
 
--- ---- what `first` is, without a look at how it goes
+-- ---- what `first` gives, however it is computed
 pub byCases : {A : Type 0} (t : Bool) → (t ≡ true → A) → (t ≡ false → A) → A
 byCases true f g = f refl
 byCases false f g = g refl
+
+-- for an equation between two constructors, from which `cc` has 0 ≡ 1
+pub never : {A : Type 0} → _≡_ {A = ℕ} 0 1 → A
+never e = absurd (omega arith)
 
 pub contra : {A : Type 0} {t : Bool} → t ≡ true → t ≡ false → A
 contra a b = absurd (subst T (sym a ∙ b) tt)
@@ -96,6 +99,22 @@ first-is p e n m l h t none =
     (λ b′. contra (first-passes p e n (omega (arith, ltb-true f m b′))) (none f (first-ge p e n) (ltb-true f m b′)))
     (λ b′. omega (arith, ltb-false m f b, ltb-false f m b′)))
 
+-- the same, with the end of the range if none passes
+pub first-at :
+    (p : ℕ → Bool) (e n m : ℕ)
+    → n ≤ m
+    → m ≤ e
+    → (m < e → p m ≡ true)
+    → ((j : ℕ) → n ≤ j → j < m → p j ≡ false)
+    → first p e n ≡ m
+first-at p e n m l k t none =
+    let f = first p e n in
+    byCases (ltb m e) (λ b. let g = ltb-true m e b in first-is p e n m l g (t g) none)
+    (λ b.
+    byCases (ltb f m)
+    (λ b′. contra (first-passes p e n (omega (arith, ltb-true f m b′))) (none f (first-ge p e n) (ltb-true f m b′)))
+    (λ b′. omega (arith, ltb-false m e b, ltb-false f m b′, first-le p e n (omega arith))))
+
 -- ---- a loop `for n in s..e { if test(n) { return n; } } e`, whose invariant is `Looked p e s n`
 abbrev pub Looked : (ℕ → Bool) → ℕ → ℕ → ℕ → Type 0
 Looked p e s n = (n ≤ e) × (first p e s ≡ first p e n)
@@ -109,7 +128,7 @@ skip p e s n inv h q t = (omega arith, inv .1 ∙ first-skip p e n h (sym q ∙ 
 pub none : (p : ℕ → Bool) (e s n : ℕ) → Looked p e s n → e ≤ n → e ≡ first p e s
 none p e s n inv h = let z : n ≡ e = omega arith in sym (rw (z, first-end) at (inv .1))
 
--- ---- tests and summands that agree where they are looked at
+-- ---- tests and summands that agree on the range
 of-ext : (p q : ℕ → Bool) (k n : ℕ) → ((j : ℕ) → n ≤ j → j < k + n → p j ≡ q j) → firstOf p k n ≡ firstOf q k n
 unfolding firstOf
 of-ext p q zero n h = refl
@@ -125,7 +144,7 @@ unfolding sum
 sum-ext f g zero h = refl
 sum-ext f g (suc n) h = rw (sum-ext f g n (λ j l. h j (omega arith)), h n (omega arith))
 
--- ---- a test that every number below n passes, and one that some number fails
+-- ---- a test that every number below n passes, and one that some number does not pass
 pub every-at : (p : ℕ → Bool) (n : ℕ) → every p n ≡ true → (k : ℕ) → k < n → p k ≡ true
 unfolding every
 every-at p zero h k l = absurd (omega arith)
@@ -137,3 +156,7 @@ pub every-all : (p : ℕ → Bool) (n : ℕ) → ((k : ℕ) → k < n → p k �
 unfolding every
 every-all p zero h = refl
 every-all p (suc n) h = rw (every-all p n (λ k l. h k (omega arith)), h n (omega arith))
+
+-- a test of two numbers that each pair of numbers below n passes
+pub each-pair : (p : ℕ → ℕ → Bool) (n : ℕ) → every (λ i. every (p i) n) n ≡ true → (i j : ℕ) → i < n → j < n → p i j ≡ true
+each-pair p n t i j hi hj = every-at (p i) n (every-at (λ k. every (p k) n) n t i hi) j hj

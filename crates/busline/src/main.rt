@@ -2,23 +2,32 @@
 use libc::STDERR_FILENO;
 use libc::STDIN_FILENO;
 use libc::STDOUT_FILENO;
-use lines::Carry;
-use registers::Registers;
+use lines::Kept;
 
-// What is carried over between reads; not going where the input ended or a call failed.
-struct Kept {
-    going: bool,
-    carry: Carry,
+// How many bytes are read at a time. Longer chunks were not faster, since larger buffers have to be cleared first.
+const CHUNK: usize = 16384;
+
+// What follows a read: another read, the end of the input, or nothing, since a call failed.
+enum Next {
+    Read,
+    Finish,
+    Stop,
 }
 
-fn stopped(carry: Carry) -> Kept {
-    Kept {
-        going: false,
-        carry: carry,
+// What is kept after a read, and what follows it.
+struct Turned {
+    next: Next,
+    kept: Kept,
+}
+
+fn stopped(kept: Kept) -> Turned {
+    Turned {
+        next: Next::Stop,
+        kept: kept,
     }
 }
 
-// The first n bytes of the output written, or a message.
+// Writes the first n bytes of the output, or a message if that fails.
 fn flush(out: &[u8], n: usize) -> bool {
     if out.len() < n {
         return false;
@@ -30,86 +39,91 @@ fn flush(out: &[u8], n: usize) -> bool {
     is_written
 }
 
-// A chunk, and the output of the lines that it completes.
-fn take(
-    registers: &mut [u8; 256],
-    cells: &mut [u8],
-    carry: Carry,
-    chunk: &[u8],
-    out: &mut [u8],
-) -> Kept {
-    let stepped = lines::step(registers, cells, carry, chunk, out);
-    let rest = stepped.carry;
+// Takes a chunk and writes the output of the lines that it completes.
+fn take(kept: Kept, cells: &mut [u8], chunk: &[u8], out: &mut [u8]) -> Turned {
+    let stepped = lines::step(kept, cells, chunk, out);
+    let after = stepped.kept;
+    let taken = stepped.taken;
+    if !taken {
+        io::write_all(STDERR_FILENO, b"busline: no room for the output\n");
+        return stopped(after);
+    }
     let written = stepped.written;
     let is_written = flush(out, written);
-    Kept {
-        going: is_written,
-        carry: rest,
+    if !is_written {
+        return stopped(after);
+    }
+    Turned {
+        next: Next::Read,
+        kept: after,
     }
 }
 
-// One read, and what it brings.
-fn turn(
-    registers: &mut [u8; 256],
-    cells: &mut [u8],
-    carry: Carry,
-    chunk: &mut [u8],
-    out: &mut [u8],
-) -> Kept {
+// One read, and the chunk that it returns.
+fn turn(kept: Kept, cells: &mut [u8], chunk: &mut [u8], out: &mut [u8]) -> Turned {
     let got = libc::read(STDIN_FILENO, chunk);
     if got < 0 {
-        io::write_all(STDERR_FILENO, b"busline: cannot read standard input\n");
-        return stopped(carry);
+        io::write_all(
+            STDERR_FILENO,
+            b"busline: cannot read standard input; an unfinished line is not executed\n",
+        );
+        return stopped(kept);
     }
     if got == 0 {
-        return stopped(carry);
+        return Turned {
+            next: Next::Finish,
+            kept: kept,
+        };
     }
     let n = io::count(got, chunk);
-    take(registers, cells, carry, &chunk[..n], out)
+    take(kept, cells, &chunk[..n], out)
 }
 
-// What is left where the input ends.
-fn end(registers: &mut [u8; 256], cells: &mut [u8], carry: Carry, out: &mut [u8]) {
-    let n = lines::finish(registers, cells, carry, out);
-    flush(out, n);
-}
-
-// Everything that the input has. A proved loop has to end, and nothing says that the input does, so it counts its turns down from a
-// number that no run uses up.
-fn read_all(
-    registers: &mut [u8; 256],
-    cells: &mut [u8],
-    chunk: &mut [u8],
-    out: &mut [u8],
-) -> Carry {
-    let mut carry = Carry {
-        bytes: [0; 41],
-        len: 0,
-    };
+// Reads the whole input. A proved loop must end, and the input might not, so the loop counts down from a number that no run reaches the end of.
+fn read_all(start: Kept, cells: &mut [u8], chunk: &mut [u8], out: &mut [u8]) -> Turned {
+    let mut kept = start;
     let mut turns = u64::MAX;
     while turns > 0 {
-        let kept = turn(registers, cells, carry, chunk, out);
-        carry = kept.carry;
-        let going = kept.going;
-        if !going {
-            return carry;
+        let turned = turn(kept, cells, chunk, out);
+        kept = turned.kept;
+        let next = turned.next;
+        match next {
+            Next::Read => {}
+            Next::Finish => {
+                return turned;
+            }
+            Next::Stop => {
+                return turned;
+            }
         }
         turns -= 1;
     }
-    carry
+    Turned {
+        next: Next::Finish,
+        kept: kept,
+    }
 }
 
+// Runs from the start to the end of the input; bytes that are left then are a line (LINE-1).
 fn run(cells: &mut [u8], chunk: &mut [u8], out: &mut [u8]) {
-    let fresh = Registers::fresh();
-    let mut registers = fresh.bytes;
-    let carry = read_all(&mut registers, cells, chunk, out);
-    end(&mut registers, cells, carry, out);
+    let start = lines::start(cells);
+    let turned = read_all(start, cells, chunk, out);
+    let kept = turned.kept;
+    let next = turned.next;
+    match next {
+        Next::Read => {}
+        Next::Stop => {}
+        Next::Finish => {
+            let line = lines::finish(kept, cells, out);
+            flush(out, line.printed);
+        }
+    }
 }
 
-// 7,280 cells of nine bytes; an output buffer of 24 bytes for each byte of a chunk. Longer chunks were not faster: more has to be cleared.
+// The lent cells, a chunk, and an output with room for the longest line for each byte of the chunk.
 fn main() {
-    let mut cells = [0u8; 65520];
-    let mut chunk = [0u8; 16384];
-    let mut out = [0u8; 393216];
+    let mut cells = [0u8; lines::LENT_BYTES];
+    let mut chunk = [0u8; CHUNK];
+    let mut out = [0u8; CHUNK * print::LONGEST_OUTPUT_LINE];
     run(&mut cells, &mut chunk, &mut out);
 }

@@ -1,7 +1,7 @@
-// What memory calls answer.
+// What a memory call answers.
+use refusals::Verdict;
 
-// What an accepted access answers: clean, corrected, uncorrectable, stored or no bank. A flip answers only that it was accepted, which is a
-// kind here, so that all calls share one answer.
+// The answers of an accepted access (LIST-9). That a flip was accepted (MEM-7) is a kind too, so that all calls share one answer.
 pub enum Kind {
     Clean,
     Corrected,
@@ -9,4 +9,16 @@ pub enum Kind {
     Stored,
     NoBank,
     Flipped,
+}
+
+// What one access of a call answers.
+pub struct Part {
+    pub kind: Kind,
+}
+
+// Whether a call was refused, and if not, what its accesses answered, in order: the first `count` parts.
+pub struct Answer {
+    pub verdict: Verdict,
+    pub count: usize,
+    pub parts: [Part; 4],
 }

@@ -1,5 +1,4 @@
--- "Memory calls", the error registers: what an answer at an address does to the record.
--- Assumes nothing.
+-- What an answer does to the error registers.
 use Prim.Native.Nat.{ℕ, _+_, _/_, _%_, _^_}
 use mathlib.Core.Bool.{Bool, cond, _&&_}
 use lib.Bits.{bitOr}
@@ -9,38 +8,38 @@ use Rattle.registers.specs.declared.Registers.{Registers}
 use Rattle.calls.specs.declared.Kind.{Kind}
 use Rattle.calls.specs.declared.Kind.the-variants.{Clean, Corrected, Uncorrectable, Stored, NoBank, Flipped}
 
--- bit j of the byte at the offset o is set
+-- REG-3: bit j of the byte at an offset is 1
 unfoldable pub bitSet : Registers → ℕ → ℕ → Bool
 bitSet r o j = eqb (at r o / 2 ^ j % 2) 1
 
--- "C1 and C5 were both zero"
+-- ERR-6: both bytes of error detection are 00
 unfoldable pub undetected : Registers → Bool
 undetected r = eqb (at r 0xC1) 0 && eqb (at r 0xC5) 0
 
--- "the call's address goes to C8 to CB", lowest byte first
-unfoldable pub addressed : Registers → ℕ → Registers
-addressed r a =
+-- ERR-5, REG-11: the record with this error address, lowest byte at C8
+unfoldable pub withErrorAddress : Registers → ℕ → Registers
+withErrorAddress r a =
     stored (stored (stored (stored r 0xC8 (a % 2 ^ 8)) 0xC9 (a / 2 ^ 8 % 2 ^ 8)) 0xCA (a / 2 ^ 16 % 2 ^ 8)) 0xCB (a / 2 ^ 24 % 2 ^ 8)
 
--- bit j of C1 or C5, at the offset o, is set. "If such a bit is set while C1 and C5 were both zero, the call's address goes to C8 to CB."
+-- ERR-5, ERR-7: bit j of C1 or C5 is set; the address is stored too if both bytes were 00
 unfoldable pub detected : Registers → ℕ → ℕ → ℕ → Registers
 detected r o j a =
     let s = stored r o (bitOr (at r o) (2 ^ j)) in
-    cond (undetected r) (addressed s a) s
+    cond (undetected r) (withErrorAddress s a) s
 
--- "If it rose and now equals B9 and C0 bit 2 is set": of a record in which B8 rose
+-- ERR-2, REG-8: in a record whose counter has just risen, it is equal to its trigger, and this is to be reported
 unfoldable pub triggered : Registers → Bool
 triggered r = eqb (at r 0xB8) (at r 0xB9) && bitSet r 0xC0 2
 
--- B8 rose, at an access to the address a: ".. C1 bit 2 is set."
+-- ERR-2: the counter has risen
 unfoldable pub rose : Registers → ℕ → Registers
 rose r a = cond (triggered r) (detected r 0xC1 2 a) r
 
--- "Each 'corrected' raises B8 by one, stopping at 255."
+-- ERR-1: one more correction; at 255 nothing changes
 unfoldable pub counted : Registers → ℕ → Registers
 counted r a = cond (ltb (at r 0xB8) 255) (rose (stored r 0xB8 (at r 0xB8 + 1)) a) r
 
--- "'No bank' sets C1 bit 5 if C0 bit 5 is set. 'Uncorrectable' sets C5 bit 3 if C4 bit 3 is set." "A flip touches no register."
+-- ERR-1, ERR-3, ERR-4, ERR-8: what each answer does to the record; C0 and C4 decide it by three bits (REG-9)
 unfoldable pub reported : Kind → ℕ → Registers → Registers
 reported Clean a r = r
 reported Corrected a r = counted r a

@@ -1,108 +1,88 @@
 // What an answer does to the error registers.
 ghost use mathlib.Core.Path.{_≡_};
 ghost use Prim.Native.Nat.{_<_};
-ghost use Rattle.error_registers.specs.Errors.{bitSet, undetected, addressed, detected, triggered, counted, reported};
+ghost use Rattle.registers.specs.Record.{recordOf};
+ghost use Rattle.error_registers.specs.Errors.{bitSet, undetected, withErrorAddress, detected, triggered, counted, reported};
 use calls::Kind;
 use registers::Registers;
 
-fn is_set(r: Registers, offset: u8, bit: u8) -> bool
+fn is_set(registers: &[u8; 256], offset: u8, bit: u8) -> bool
     requires { ⌜ bit < 8 ⌝ }
-    ensures { λ t. ⌜ t ≡ bitSet r offset bit ⌝ }
+    ensures { λ t. ⌜ t ≡ bitSet (recordOf (now (registers .entry))) offset bit ⌝ }
 {
-    r.byte(offset) >> bit & 1 == 1
+    registers[offset as usize] >> bit & 1 == 1
 }
 
-fn is_undetected(r: Registers) -> bool
-    ensures { λ t. ⌜ t ≡ undetected r ⌝ }
+fn is_undetected(registers: &[u8; 256]) -> bool
+    ensures { λ t. ⌜ t ≡ undetected (recordOf (now (registers .entry))) ⌝ }
 {
-    (r.byte(Registers::ERROR_DETECTION_1) == 0) & (r.byte(Registers::ERROR_DETECTION_2) == 0)
+    (registers[Registers::ERROR_DETECTION_1 as usize] == 0)
+        & (registers[Registers::ERROR_DETECTION_2 as usize] == 0)
 }
 
-// The address at C8 to CB, lowest byte first.
-fn with_address(r: Registers, address: u32) -> Registers
-    ensures { λ s. ⌜ s ≡ addressed r address ⌝ }
+// ERR-5, REG-11: the record with this error address.
+fn put_address(registers: &mut [u8; 256], address: u32)
+    ensures { λ _. ⌜ now (registers .exit) ≡ withErrorAddress (recordOf (now (registers .entry))) address .bytes ⌝ }
 {
-    r.with_byte(Registers::ERROR_ADDRESS, (address % 256) as u8)
-        .with_byte(Registers::ERROR_ADDRESS + 1, (address / 256 % 256) as u8)
-        .with_byte(Registers::ERROR_ADDRESS + 2, (address / 65536 % 256) as u8)
-        .with_byte(
-            Registers::ERROR_ADDRESS + 3,
-            (address / 16777216 % 256) as u8,
-        )
+    let at = Registers::ERROR_ADDRESS as usize;
+    registers[at] = (address % 256) as u8;
+    registers[at + 1] = (address / 256 % 256) as u8;
+    registers[at + 2] = (address / 65536 % 256) as u8;
+    registers[at + 3] = (address / 16777216 % 256) as u8;
 }
 
-// A detection bit set, and the address with it where it is the first.
-fn detect(r: Registers, offset: u8, bit: u8, address: u32) -> Registers
+// ERR-5: sets a detection bit, and stores the address if both detection bytes were 00.
+fn detect(registers: &mut [u8; 256], offset: u8, bit: u8, address: u32)
     requires { ⌜ bit < 8 ⌝ }
-    ensures { λ s. ⌜ s ≡ detected r offset bit address ⌝ }
+    ensures { λ _. ⌜ now (registers .exit) ≡ detected (recordOf (now (registers .entry))) offset bit address .bytes ⌝ }
 {
-    let s = r.with_byte(offset, r.byte(offset) | 1u8 << bit);
-    if is_undetected(r) {
-        with_address(s, address)
-    } else {
-        s
+    let first = is_undetected(registers);
+    registers[offset as usize] = registers[offset as usize] | 1u8 << bit;
+    if first {
+        put_address(registers, address);
     }
 }
 
-// The counter has just risen to its trigger, and this is to be reported.
-fn is_triggered(r: Registers) -> bool
-    ensures { λ t. ⌜ t ≡ triggered r ⌝ }
+// ERR-2: the counter, which has just risen, equals its trigger, and this is to be reported.
+fn is_triggered(registers: &[u8; 256]) -> bool
+    ensures { λ t. ⌜ t ≡ triggered (recordOf (now (registers .entry))) ⌝ }
 {
-    (r.byte(Registers::SINGLE_BIT_COUNTER) == r.byte(Registers::SINGLE_BIT_TRIGGER))
-        & is_set(r, Registers::ERROR_ENABLE_1, 2)
+    (registers[Registers::SINGLE_BIT_COUNTER as usize]
+        == registers[Registers::SINGLE_BIT_TRIGGER as usize])
+        & is_set(registers, Registers::ERROR_ENABLE_1, 2)
 }
 
-// A correction counted: at 255 the counter does not rise, so nothing is reported.
-fn count(r: Registers, address: u32) -> Registers
-    ensures { λ s. ⌜ s ≡ counted r address ⌝ }
+// ERR-1: counts a correction. At 255 the counter does not rise, so nothing is reported (ERR-2).
+fn count(registers: &mut [u8; 256], address: u32)
+    ensures { λ _. ⌜ now (registers .exit) ≡ counted (recordOf (now (registers .entry))) address .bytes ⌝ }
 {
-    let corrections = r.byte(Registers::SINGLE_BIT_COUNTER);
-    if 255 <= corrections {
-        return r;
-    }
-    let s = r.with_byte(Registers::SINGLE_BIT_COUNTER, corrections + 1);
-    if is_triggered(s) {
-        return detect(s, Registers::ERROR_DETECTION_1, 2, address);
-    }
-    s
-}
-
-// The record after an answer of this kind at the address.
-fn after(r: Registers, kind: Kind, address: u32) -> Registers
-    ensures { λ s. ⌜ s ≡ reported kind address r ⌝ }
-{
-    match kind {
-        Kind::Clean => r,
-        Kind::Corrected => count(r, address),
-        Kind::Uncorrectable => {
-            if is_set(r, Registers::ERROR_ENABLE_2, 3) {
-                return detect(r, Registers::ERROR_DETECTION_2, 3, address);
-            }
-            r
+    let corrections = registers[Registers::SINGLE_BIT_COUNTER as usize];
+    if corrections < 255 {
+        registers[Registers::SINGLE_BIT_COUNTER as usize] = corrections + 1;
+        if is_triggered(registers) {
+            detect(registers, Registers::ERROR_DETECTION_1, 2, address);
         }
-        Kind::Stored => r,
-        Kind::NoBank => {
-            if is_set(r, Registers::ERROR_ENABLE_1, 5) {
-                return detect(r, Registers::ERROR_DETECTION_1, 5, address);
-            }
-            r
-        }
-        Kind::Flipped => r,
     }
 }
 
-// The record after an answer, in place; kinds that change nothing store nothing.
+// The record after an answer: the bytes that it changes are stored, and no others are touched (ERR-7).
 pub fn report(registers: &mut [u8; 256], kind: Kind, address: u32)
-    ensures { λ _. ⌜ now (registers .exit) ≡ reported kind address (record { bytes = now (registers .entry) }) .bytes ⌝ }
+    ensures { λ _. ⌜ now (registers .exit) ≡ reported kind address (recordOf (now (registers .entry))) .bytes ⌝ }
 {
     match kind {
         Kind::Clean => {}
-        Kind::Stored => {}
-        Kind::Flipped => {}
-        _ => {
-            let new = after(Registers { bytes: *registers }, kind, address);
-            let bytes = new.bytes;
-            *registers = bytes;
+        Kind::Corrected => count(registers, address),
+        Kind::Uncorrectable => {
+            if is_set(registers, Registers::ERROR_ENABLE_2, 3) {
+                detect(registers, Registers::ERROR_DETECTION_2, 3, address);
+            }
         }
+        Kind::Stored => {}
+        Kind::NoBank => {
+            if is_set(registers, Registers::ERROR_ENABLE_1, 5) {
+                detect(registers, Registers::ERROR_DETECTION_1, 5, address);
+            }
+        }
+        Kind::Flipped => {}
     }
 }

@@ -1,7 +1,6 @@
--- What `flat-comparison` says of single answers: none is "uncorrectable", and one is "corrected" exactly where a mark stands.
--- Assumes nothing.
+-- What `flat-comparison` says about single answers: none is "uncorrectable", and an answer is "corrected" exactly if a mark is set.
 use Prim.Native.Nat.{ℕ, zero, suc, _*_, _/_, _≤_}
-use mathlib.Core.Path.{_≡_, refl}
+use mathlib.Core.Path.{_≡_, refl, ap₂}
 use mathlib.Core.Bool.{Bool, true, false, not, cond, _&&_}
 use mathlib.Core.Option.{Option, none, some, Option·none-ne-some}
 use mathlib.Core.List.{List, [], _∷_}
@@ -16,10 +15,12 @@ use Rattle.banks.proofs.MapLaws.{isSome}
 use Rattle.ecc.specs.Columns.{accepted}
 use Rattle.calls.specs.declared.Kind.{Kind}
 use Rattle.calls.specs.declared.Kind.the-variants.{Clean, Corrected, Uncorrectable, Stored, NoBank, Flipped}
-use Rattle.memory.specs.Access.{Access, read, write, flip, scrub, addressOf, parts, Got, Given, Call, memory, readRegister, writeRegister}
-use Rattle.memory.specs.Spans.{Spans, byCall, missed}
-use Rattle.memory.specs.Calls.{spansOf, run}
-use Rattle.flat.specs.Flat.{Flat, blank, byMark, flatHeld, flatAccess, flatAccesses, flatSettled, flatCall, flatRun}
+use Rattle.calls.specs.Calls.{MemoryCall, Access, readIn, writeIn, flipIn, scrubIn, addressOf, parts, Got, Given, Call, memory, readRegister, writeRegister}
+use Rattle.calls.specs.Spans.{Spans, byCall, missed}
+use Rattle.calls.specs.State.{state}
+use Rattle.machine.specs.Calls.{spansOf}
+use Rattle.call_lists.specs.Lists.{run}
+use Rattle.flat.specs.Flat.{Flat, blank, byMark, flatInSpan, flatAccess, flatAccesses, flatPerformed, flatCall, flatRun}
 use Rattle.flat.specs.Comparison.{SwitchedOn, AtErrorRegisters, All, Spaced, FlatComparison}
 use Rattle.flat.proofs.Comparison.{comparison}
 
@@ -43,22 +44,22 @@ mark-certain none = refl
 mark-certain (some b) = refl
 
 access-certain : (spans : Spans) (f : Flat) (x : Access) → isUncorrectable (flatAccess spans f x .0 .kind) ≡ false
-unfolding flatAccess flatHeld missed
+unfolding flatAccess flatInSpan missed
 access-certain spans f x = go (spans .holds (addressOf x)) x
   where
     full : (t : Bool) (m : Option ℕ) → isUncorrectable (cond t Stored (byMark m)) ≡ false
     full true m = refl
     full false m = mark-certain m
 
-    go : (t : Bool) (x : Access) → isUncorrectable (cond t (flatHeld f x) (missed x, f) .0 .kind) ≡ false
-    go true (read a n) = mark-certain (f .mark (a / 8))
-    go true (write a bs) = full (eqb (length bs) 8) (f .mark (a / 8))
-    go true (flip a b) = refl
-    go true (scrub a) = mark-certain (f .mark (a / 8))
-    go false (read a n) = refl
-    go false (write a bs) = refl
-    go false (flip a b) = refl
-    go false (scrub a) = refl
+    go : (t : Bool) (x : Access) → isUncorrectable (cond t (flatInSpan f x) (missed x, f) .0 .kind) ≡ false
+    go true (readIn a n) = mark-certain (f .mark (a / 8))
+    go true (writeIn a bs) = full (eqb (length bs) 8) (f .mark (a / 8))
+    go true (flipIn a b) = refl
+    go true (scrubIn a) = mark-certain (f .mark (a / 8))
+    go false (readIn a n) = refl
+    go false (writeIn a bs) = refl
+    go false (flipIn a b) = refl
+    go false (scrubIn a) = refl
 
 accesses-certain : (spans : Spans) (xs : List Access) (f : Flat) → All (λ g. isUncorrectable (g .kind) ≡ false) (flatAccesses spans f xs .0)
 unfolding flatAccesses
@@ -66,17 +67,17 @@ accesses-certain spans [] f = tt
 accesses-certain spans (x ∷ xs) f = (access-certain spans f x, accesses-certain spans xs (flatAccess spans f x .1))
 
 run-certain : (spans : Spans) (cs : List Call) (f : Flat) → All Certain (flatRun spans f cs .0)
-unfolding flatRun flatCall flatSettled
+unfolding flatRun flatCall flatPerformed
 run-certain spans [] f = tt
 run-certain spans (readRegister o ∷ cs) f = (tt, run-certain spans cs f)
 run-certain spans (writeRegister o v ∷ cs) f = (tt, run-certain spans cs f)
-run-certain spans (memory x ∷ cs) f = (go (byCall spans x), run-certain spans cs (flatCall spans f (memory x) .1))
+run-certain spans (memory c ∷ cs) f = (go (byCall spans c), run-certain spans cs (flatCall spans f (memory c) .1))
   where
-    go : (d : Declined) → Certain (some (flatSettled d spans f (parts x) .0))
-    go none = accesses-certain spans (parts x) f
+    go : (d : Declined) → Certain (some (flatPerformed d spans f (parts c) .0))
+    go none = accesses-certain spans (parts c) f
     go (some n) = tt
 
--- ---- "corrected" exactly where a mark stands
+-- ---- "corrected" exactly if a mark is set
 
 abbrev pub isCorrected : Kind → Bool
 isCorrected Clean = false
@@ -88,12 +89,12 @@ isCorrected Flipped = false
 
 -- an access that looks at what the doubleword held: a read, a short write, a scrub
 abbrev pub looks : Access → Bool
-looks (read a n) = true
-looks (write a bs) = not (eqb (length bs) 8)
-looks (flip a b) = false
-looks (scrub a) = true
+looks (readIn a n) = true
+looks (writeIn a bs) = not (eqb (length bs) 8)
+looks (flipIn a b) = false
+looks (scrubIn a) = true
 
--- it selects a bank, and the mark of its doubleword stands
+-- it selects a bank, and the mark of its doubleword is set
 abbrev pub meetsMark : Spans → Flat → Access → Bool
 meetsMark spans f x = looks x && (spans .holds (addressOf x) && isSome (f .mark (addressOf x / 8)))
 
@@ -102,7 +103,7 @@ mark-corrected none = refl
 mark-corrected (some b) = refl
 
 access-corrected : (spans : Spans) (f : Flat) (x : Access) → isCorrected (flatAccess spans f x .0 .kind) ≡ meetsMark spans f x
-unfolding flatAccess flatHeld missed
+unfolding flatAccess flatInSpan missed
 access-corrected spans f x = go (spans .holds (addressOf x)) x
   where
     full : (t : Bool) (m : Option ℕ) → isCorrected (cond t Stored (byMark m)) ≡ (not t && isSome m)
@@ -113,15 +114,15 @@ access-corrected spans f x = go (spans .holds (addressOf x)) x
     none-of true = refl
     none-of false = refl
 
-    go : (t : Bool) (x : Access) → isCorrected (cond t (flatHeld f x) (missed x, f) .0 .kind) ≡ (looks x && (t && isSome (f .mark (addressOf x / 8))))
-    go true (read a n) = mark-corrected (f .mark (a / 8))
-    go true (write a bs) = full (eqb (length bs) 8) (f .mark (a / 8))
-    go true (flip a b) = refl
-    go true (scrub a) = mark-corrected (f .mark (a / 8))
-    go false (read a n) = refl
-    go false (write a bs) = none-of (not (eqb (length bs) 8))
-    go false (flip a b) = refl
-    go false (scrub a) = refl
+    go : (t : Bool) (x : Access) → isCorrected (cond t (flatInSpan f x) (missed x, f) .0 .kind) ≡ (looks x && (t && isSome (f .mark (addressOf x / 8))))
+    go true (readIn a n) = mark-corrected (f .mark (a / 8))
+    go true (writeIn a bs) = full (eqb (length bs) 8) (f .mark (a / 8))
+    go true (flipIn a b) = refl
+    go true (scrubIn a) = mark-corrected (f .mark (a / 8))
+    go false (readIn a n) = refl
+    go false (writeIn a bs) = none-of (not (eqb (length bs) 8))
+    go false (flipIn a b) = refl
+    go false (scrubIn a) = refl
 
 -- the answer at a place of the list, by what the flat machine holds there
 place-of : (spans : Spans) (cs : List Call) (f : Flat) (i : ℕ) (c : Call) → getElem? cs i ≡ some c
@@ -131,11 +132,25 @@ place-of spans [] f i c e = absurd (Option·none-ne-some c e)
 place-of spans (d ∷ cs) f zero c e = let z : d ≡ c = cc in rw z
 place-of spans (d ∷ cs) f (suc i) c e = place-of spans cs (flatCall spans f d .1) i c e
 
-call-got : (spans : Spans) (f : Flat) (x : Access) (g : Got) → flatCall spans f (memory x) .0 ≡ some (given (g ∷ [])) → g ≡ flatAccess spans f x .0
-unfolding flatCall flatSettled flatAccesses parts
-call-got spans f x g e = go (byCall spans x) e
+-- of each access of a call
+abbrev pub correctedOf : List Got → List Bool
+correctedOf [] = []
+correctedOf (g ∷ gs) = isCorrected (g .kind) ∷ correctedOf gs
+
+abbrev pub meetsMarks : Spans → Flat → List Access → List Bool
+meetsMarks spans f [] = []
+meetsMarks spans f (x ∷ xs) = meetsMark spans f x ∷ meetsMarks spans (flatAccess spans f x .1) xs
+
+accesses-corrected : (spans : Spans) (xs : List Access) (f : Flat) → correctedOf (flatAccesses spans f xs .0) ≡ meetsMarks spans f xs
+unfolding flatAccesses
+accesses-corrected spans [] f = refl
+accesses-corrected spans (x ∷ xs) f = ap₂ {C = List Bool} _∷_ (access-corrected spans f x) (accesses-corrected spans xs (flatAccess spans f x .1))
+
+call-got : (spans : Spans) (f : Flat) (c : MemoryCall) (gs : List Got) → flatCall spans f (memory c) .0 ≡ some (given gs) → gs ≡ flatAccesses spans f (parts c) .0
+unfolding flatCall flatPerformed
+call-got spans f c gs e = go (byCall spans c) e
   where
-    go : (d : Declined) → _≡_ {A = Option Given} (some (flatSettled d spans f (parts x) .0)) (some (given (g ∷ []))) → g ≡ flatAccess spans f x .0
+    go : (d : Declined) → _≡_ {A = Option Given} (some (flatPerformed d spans f (parts c) .0)) (some (given gs)) → gs ≡ flatAccesses spans f (parts c) .0
     go none h = cc
     go (some n) h = let z : _≡_ {A = ℕ} 0 1 = cc in absurd (omega arith)
 
@@ -143,7 +158,7 @@ module _ (cols : List ℕ) (good : accepted cols ≡ true) (r : Registers) (w : 
     (lent : ℕ) (h : 9 * cellCount (setupOf r) ≤ lent)
     (cs : List Call) (p : All AtErrorRegisters cs) (sp : Spaced (spansOf (setupOf r)) cs) where
   abbrev answers : List (Option Given)
-  answers = run cols (record { registers = r; cells = replicate lent 0 }) cs .0
+  answers = run cols (state r (replicate lent 0)) cs .0
 
   same : answers ≡ flatRun (spansOf (setupOf r)) blank cs .0
   unfolding FlatComparison
@@ -152,13 +167,13 @@ module _ (cols : List ℕ) (good : accepted cols ≡ true) (r : Registers) (w : 
   pub never-uncorrectable : All Certain answers
   never-uncorrectable = rw same (run-certain (spansOf (setupOf r)) cs blank)
 
-  -- x is the memory call at place i of the list, and g what it gives: it is "corrected" exactly where a mark stands, after the i calls
-  -- before it
-  pub corrected-where-marked : (i : ℕ) (x : Access) (g : Got) → getElem? cs i ≡ some (memory x) → getElem? answers i ≡ some (some (given (g ∷ [])))
-      → isCorrected (g .kind) ≡ meetsMark (spansOf (setupOf r)) (flatRun (spansOf (setupOf r)) blank (take i cs) .1) x
-  corrected-where-marked i x g e a =
+  -- c is the memory call at place i of the list, and gs what its accesses give: each is "corrected" exactly if a mark is set after the i
+  -- calls before it and the accesses before it
+  pub corrected-where-marked : (i : ℕ) (c : MemoryCall) (gs : List Got) → getElem? cs i ≡ some (memory c) → getElem? answers i ≡ some (some (given gs))
+      → correctedOf gs ≡ meetsMarks (spansOf (setupOf r)) (flatRun (spansOf (setupOf r)) blank (take i cs) .1) (parts c)
+  corrected-where-marked i c gs e a =
       let spans = spansOf (setupOf r) in
       let f = flatRun spans blank (take i cs) .1 in
-      let b : getElem? (flatRun spans blank cs .0) i ≡ some (some (given (g ∷ []))) = rw same at a in
-      let c : flatCall spans f (memory x) .0 ≡ some (given (g ∷ [])) = let q = place-of spans cs blank i (memory x) e in cc in
-      rw (call-got spans f x g c) (access-corrected spans f x)
+      let b : getElem? (flatRun spans blank cs .0) i ≡ some (some (given gs)) = rw same at a in
+      let q : flatCall spans f (memory c) .0 ≡ some (given gs) = let k = place-of spans cs blank i (memory c) e in cc in
+      rw (call-got spans f c gs q) (accesses-corrected spans (parts c) f)

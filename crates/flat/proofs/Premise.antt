@@ -1,5 +1,4 @@
 -- The premise on a list gives what the comparison rests on: no flip that is accepted finds a mark.
--- Assumes nothing.
 use Prim.Native.Nat.{ℕ, zero, suc, _*_, _/_, _≤_, _<_, suc-le-suc}
 use mathlib.Core.Path.{_≡_, refl, sym, _∙_}
 use mathlib.Core.Bool.{Bool, true, false, not, cond, _&&_, _||_}
@@ -12,11 +11,12 @@ use borrow.Author.Tests.{eqb-true, eqb-false, eq-eqb}
 use Rattle.basics.proofs.Bools.{and-right, or-left, or-right}
 use Rattle.basics.proofs.RangeLaws.{byCases, contra}
 use Rattle.refusals.specs.Paper.{Declined}
-use Rattle.memory.specs.Access.{Access, read, write, flip, scrub, addressOf, parts, Call, memory, readRegister, writeRegister}
-use Rattle.memory.specs.Spans.{Spans, byCall, missed}
-use Rattle.flat.specs.Flat.{Flat, marked, flatHeld, flatAccess, blank}
+use Rattle.calls.specs.Calls.{MemoryCall, read, write, flip, scrub, Access, readIn, writeIn, flipIn, scrubIn, addressOf, parts}
+use Rattle.calls.specs.Calls.{Call, memory, readRegister, writeRegister}
+use Rattle.calls.specs.Spans.{Spans, byCall, missed}
+use Rattle.flat.specs.Flat.{Flat, withMark, flatInSpan, flatAccess, blank}
 use Rattle.flat.specs.Comparison.{ifAccepted, acceptedOf, flips, renews, anyOf, flippedAt, renewedAt, Spaced}
-use Rattle.flat.proofs.Doubleword.{Fresh}
+use Rattle.flat.proofs.Doubleword.{FindsNoMark}
 
 -- the accepted accesses of a list, in order
 unfoldable pub acceptedAll : Spans → List Call → List Access
@@ -45,6 +45,15 @@ skip q (x ∷ xs) ys n k = go (renews q x) refl (skip q xs ys (or-right (flips q
         → (t || not (flips q x) && renewedFirst q (xs ++ ys)) ≡ true
     go true e more = refl
     go false e more = rw (or-left (flips q x) (anyOf (flips q) xs) n) (more (λ m. k (rw e m)))
+
+-- a call flips in its last access or not at all
+apart-parts : (c : MemoryCall) (ys : List Access) → Apart ys → ((q : ℕ) → anyOf (flips q) (parts c) ≡ true → renewedFirst q ys ≡ true)
+    → Apart (parts c ++ ys)
+unfolding parts anyOf
+apart-parts (read a n) ys rest k = (λ q t. k q (rw t), rest)
+apart-parts (write a bs) ys rest k = (λ q t. k q (rw t), rest)
+apart-parts (flip a b) ys rest k = (λ q t. k q (rw t), rest)
+apart-parts (scrub a) ys rest k = (λ q t. k q (rw t), rest)
 
 module _ (spans : Spans) where
   -- at some place before the next flip of q it takes a write or a scrub
@@ -83,24 +92,24 @@ module _ (spans : Spans) where
       (r .0, r .2, r .3)
 
   apart : (cs : List Call) → Spaced spans cs → Apart (acceptedAll spans cs)
-  unfolding acceptedAll acceptedOf parts anyOf
+  unfolding acceptedAll acceptedOf
   apart [] s = tt
   apart (readRegister o ∷ cs) s = apart cs (spaced-tail (readRegister o) cs s)
   apart (writeRegister o v ∷ cs) s = apart cs (spaced-tail (writeRegister o v) cs s)
-  apart (memory x ∷ cs) s = go (byCall spans x) refl (apart cs (spaced-tail (memory x) cs s))
+  apart (memory c ∷ cs) s = go (byCall spans c) refl (apart cs (spaced-tail (memory c) cs s))
     where
-      go : (d : Declined) → byCall spans x ≡ d → Apart (acceptedAll spans cs) → Apart (ifAccepted d (parts x) ++ acceptedAll spans cs)
+      go : (d : Declined) → byCall spans c ≡ d → Apart (acceptedAll spans cs) → Apart (ifAccepted d (parts c) ++ acceptedAll spans cs)
       go (some n) e rest = rest
-      go none e rest = (λ q t. waiting q cs (after-flip q (memory x) cs s (rw (e, t))), rest)
+      go none e rest = apart-parts c (acceptedAll spans cs) rest (λ q t. waiting q cs (after-flip q (memory c) cs s (rw e t)))
 
 -- ---- along the flat machine's run
 
--- each flip finds no mark
-abbrev pub Gentle : Spans → Flat → List Access → Type 0
-Gentle spans f [] = Unit {0}
-Gentle spans f (x ∷ xs) = Fresh f x × Gentle spans (flatAccess spans f x .1) xs
+-- no flip finds a mark already set
+abbrev pub NoFlipFindsMark : Spans → Flat → List Access → Type 0
+NoFlipFindsMark spans f [] = Unit {0}
+NoFlipFindsMark spans f (x ∷ xs) = FindsNoMark f x × NoFlipFindsMark spans (flatAccess spans f x .1) xs
 
--- what a standing mark of doubleword q asks of the rest of the list
+-- what a mark that is set on doubleword q requires of the rest of the list
 abbrev Due : Spans → Option ℕ → ℕ → List Access → Type 0
 Due spans none q xs = Unit {0}
 Due spans (some b) q xs = (spans .holds (8 * q) ≡ true) × (renewedFirst q xs ≡ true)
@@ -113,10 +122,10 @@ due-tail spans (some b) q x xs n d =
     (d .0, and-right (not (flips q x)) (renewedFirst q xs) (rw (n (d .0)) at (d .1)))
 
 module _ (spans : Spans) (steady : (a b : ℕ) → a / 8 ≡ b / 8 → spans .holds a ≡ spans .holds b) where
-  marked-due : (m : ℕ → Option ℕ) (v : Option ℕ) (a : ℕ) (xs : List Access) → Due spans v (a / 8) xs
-      → ((q : ℕ) → (a / 8 ≡ q → ⊥) → Due spans (m q) q xs) → (q : ℕ) → Due spans (marked m (a / 8) v q) q xs
-  unfolding marked
-  marked-due m v a xs hv hm q = go (eqb q (a / 8)) refl
+  mark-due : (m : ℕ → Option ℕ) (v : Option ℕ) (a : ℕ) (xs : List Access) → Due spans v (a / 8) xs
+      → ((q : ℕ) → (a / 8 ≡ q → ⊥) → Due spans (m q) q xs) → (q : ℕ) → Due spans (withMark m (a / 8) v q) q xs
+  unfolding withMark
+  mark-due m v a xs hv hm q = go (eqb q (a / 8)) refl
     where
       go : (t : Bool) → eqb q (a / 8) ≡ t → Due spans (cond t v (m q)) q xs
       go true e = rw (eqb-true q (a / 8) e) hv
@@ -129,47 +138,47 @@ module _ (spans : Spans) (steady : (a b : ℕ) → a / 8 ≡ b / 8 → spans .ho
   other a q ne = byCases (eqb (a / 8) q) (λ t. absurd (ne (eqb-true (a / 8) q t))) (λ t. t)
 
   -- the marks after an access, by the marks before: where a bank is selected, and where none is
-  due-held : (f : Flat) (x : Access) (xs : List Access) → spans .holds (addressOf x) ≡ true → Apart (x ∷ xs)
-      → ((q : ℕ) → Due spans (f .mark q) q (x ∷ xs)) → (q : ℕ) → Due spans (flatHeld f x .1 .mark q) q xs
-  unfolding flatHeld renews flips
-  due-held f (read a n) xs t s d = λ q. due-tail spans (f .mark q) q (read a n) xs (λ w. refl) (d q)
-  due-held f (write a bs) xs t s d = marked-due (f .mark) none a xs tt (λ q ne. due-tail spans (f .mark q) q (write a bs) xs (λ w. other a q ne) (d q))
-  due-held f (scrub a) xs t s d = marked-due (f .mark) none a xs tt (λ q ne. due-tail spans (f .mark q) q (scrub a) xs (λ w. other a q ne) (d q))
-  due-held f (flip a b) xs t s d =
-      marked-due (f .mark) (some b) a xs (sym (holds-alike a (a / 8) refl) ∙ t, s .0 (a / 8) (eq-eqb (a / 8) (a / 8) refl))
-      (λ q ne. due-tail spans (f .mark q) q (flip a b) xs (λ w. refl) (d q))
+  due-in-span : (f : Flat) (x : Access) (xs : List Access) → spans .holds (addressOf x) ≡ true → Apart (x ∷ xs)
+      → ((q : ℕ) → Due spans (f .mark q) q (x ∷ xs)) → (q : ℕ) → Due spans (flatInSpan f x .1 .mark q) q xs
+  unfolding flatInSpan renews flips
+  due-in-span f (readIn a n) xs t s d = λ q. due-tail spans (f .mark q) q (readIn a n) xs (λ w. refl) (d q)
+  due-in-span f (writeIn a bs) xs t s d = mark-due (f .mark) none a xs tt (λ q ne. due-tail spans (f .mark q) q (writeIn a bs) xs (λ w. other a q ne) (d q))
+  due-in-span f (scrubIn a) xs t s d = mark-due (f .mark) none a xs tt (λ q ne. due-tail spans (f .mark q) q (scrubIn a) xs (λ w. other a q ne) (d q))
+  due-in-span f (flipIn a b) xs t s d =
+      mark-due (f .mark) (some b) a xs (sym (holds-alike a (a / 8) refl) ∙ t, s .0 (a / 8) (eq-eqb (a / 8) (a / 8) refl))
+      (λ q ne. due-tail spans (f .mark q) q (flipIn a b) xs (λ w. refl) (d q))
 
-  not-held : (x : Access) (q : ℕ) → spans .holds (addressOf x) ≡ false → spans .holds (8 * q) ≡ true → renews q x ≡ false
+  outside-renews-none : (x : Access) (q : ℕ) → spans .holds (addressOf x) ≡ false → spans .holds (8 * q) ≡ true → renews q x ≡ false
   unfolding renews
-  not-held (read a n) q h y = refl
-  not-held (write a bs) q h y = other a q (λ e. contra (holds-alike a q e ∙ y) h)
-  not-held (flip a b) q h y = refl
-  not-held (scrub a) q h y = other a q (λ e. contra (holds-alike a q e ∙ y) h)
+  outside-renews-none (readIn a n) q h y = refl
+  outside-renews-none (writeIn a bs) q h y = other a q (λ e. contra (holds-alike a q e ∙ y) h)
+  outside-renews-none (flipIn a b) q h y = refl
+  outside-renews-none (scrubIn a) q h y = other a q (λ e. contra (holds-alike a q e ∙ y) h)
 
   due-next : (f : Flat) (x : Access) (xs : List Access) → Apart (x ∷ xs) → ((q : ℕ) → Due spans (f .mark q) q (x ∷ xs))
       → (q : ℕ) → Due spans (flatAccess spans f x .1 .mark q) q xs
   unfolding flatAccess
   due-next f x xs s d q = go (spans .holds (addressOf x)) refl
     where
-      go : (t : Bool) → spans .holds (addressOf x) ≡ t → Due spans (cond t (flatHeld f x) (missed x, f) .1 .mark q) q xs
-      go true e = due-held f x xs e s d q
-      go false e = due-tail spans (f .mark q) q x xs (not-held x q e) (d q)
+      go : (t : Bool) → spans .holds (addressOf x) ≡ t → Due spans (cond t (flatInSpan f x) (missed x, f) .1 .mark q) q xs
+      go true e = due-in-span f x xs e s d q
+      go false e = due-tail spans (f .mark q) q x xs (outside-renews-none x q e) (d q)
 
-  fresh : (f : Flat) (x : Access) (xs : List Access) → ((q : ℕ) → Due spans (f .mark q) q (x ∷ xs)) → Fresh f x
+  finds-no-mark : (f : Flat) (x : Access) (xs : List Access) → ((q : ℕ) → Due spans (f .mark q) q (x ∷ xs)) → FindsNoMark f x
   unfolding renewedFirst renews flips
-  fresh f (read a n) xs d = tt
-  fresh f (write a bs) xs d = tt
-  fresh f (scrub a) xs d = tt
-  fresh f (flip a b) xs d = go (f .mark (a / 8)) (d (a / 8))
+  finds-no-mark f (readIn a n) xs d = tt
+  finds-no-mark f (writeIn a bs) xs d = tt
+  finds-no-mark f (scrubIn a) xs d = tt
+  finds-no-mark f (flipIn a b) xs d = go (f .mark (a / 8)) (d (a / 8))
     where
-      go : (m : Option ℕ) → Due spans m (a / 8) (flip a b ∷ xs) → m ≡ none
+      go : (m : Option ℕ) → Due spans m (a / 8) (flipIn a b ∷ xs) → m ≡ none
       go none h = refl
       go (some c) h = contra (rw (eq-eqb (a / 8) (a / 8) refl) at (h .1)) refl
 
-  gentle : (xs : List Access) (f : Flat) → Apart xs → ((q : ℕ) → Due spans (f .mark q) q xs) → Gentle spans f xs
-  gentle [] f s d = tt
-  gentle (x ∷ xs) f s d = (fresh f x xs d, gentle xs (flatAccess spans f x .1) (s .1) (due-next f x xs s d))
+  no-flip : (xs : List Access) (f : Flat) → Apart xs → ((q : ℕ) → Due spans (f .mark q) q xs) → NoFlipFindsMark spans f xs
+  no-flip [] f s d = tt
+  no-flip (x ∷ xs) f s d = (finds-no-mark f x xs d, no-flip xs (flatAccess spans f x .1) (s .1) (due-next f x xs s d))
 
-  pub spaced-gentle : (cs : List Call) → Spaced spans cs → Gentle spans blank (acceptedAll spans cs)
+  pub spaced-no-flip : (cs : List Call) → Spaced spans cs → NoFlipFindsMark spans blank (acceptedAll spans cs)
   unfolding blank
-  spaced-gentle cs s = gentle (acceptedAll spans cs) blank (apart spans cs s) (λ q. tt)
+  spaced-no-flip cs s = no-flip (acceptedAll spans cs) blank (apart spans cs s) (λ q. tt)

@@ -1,5 +1,4 @@
 -- The whole memory: an access keeps every cell in step with the flat machine, since distinct doublewords have distinct cells.
--- Assumes nothing.
 use Prim.Native.Nat.{ℕ, _*_, _/_, _≤_, _<_}
 use mathlib.Core.Path.{_≡_, refl, sym, ap, ap₂, _∙_}
 use mathlib.Core.Logic.{_≢_}
@@ -18,16 +17,16 @@ use Rattle.ecc.specs.Cell.{encode}
 use Rattle.ecc.specs.Lending.{cellAt, isLent}
 use Rattle.ecc.proofs.Laws.{encode-zeros}
 use Rattle.ecc.proofs.CellLaws.{fits-lent, put-length, put-same, put-other, cell-zeros}
-use Rattle.calls.specs.declared.Kind.the-variants.{NoBank}
-use Rattle.memory.specs.Access.{Access, addressOf, Got}
-use Rattle.memory.specs.Spans.{missed}
+use Rattle.calls.specs.Calls.{Access, addressOf, Got}
+use Rattle.calls.specs.Spans.{missed}
+use Rattle.calls.specs.State.{State, state}
 use Rattle.error_registers.specs.Errors.{reported}
-use Rattle.memory.specs.Cells.{onCell}
-use Rattle.memory.specs.Calls.{State, spansOf, putAt, access, accessAt}
-use Rattle.flat.specs.Flat.{Flat, flatHeld, flatAccess, blank}
+use Rattle.machine.specs.Cells.{onCell}
+use Rattle.machine.specs.Calls.{spansOf, putAt, onTarget, access, accessAt}
+use Rattle.flat.specs.Flat.{Flat, flatInSpan, flatAccess, blank}
 use Rattle.flat.proofs.Octets.{octet, octet-length, octet-zero}
-use Rattle.flat.proofs.Doubleword.{Allowed, Fresh, Sound, sound, Alone, alone, after, coded, coded-length, Holds, Agree, agree}
-use Rattle.error_registers.proofs.ErrorLaws.{setup-reported}
+use Rattle.flat.proofs.Doubleword.{Allowed, FindsNoMark, MarksBelow72, marks-below, Untouched, others-untouched, after, coded, coded-length, StandsFor, Agree, agree}
+use Rattle.machine.proofs.SetupLaws.{setup-reported}
 
 -- the cells after what an access stored in cell k
 module _ (cells : List ℕ) (k : ℕ) (lent : isLent cells k ≡ true) where
@@ -49,17 +48,17 @@ module _ (cols : List ℕ) (good : accepted cols ≡ true) (s : Setup) (map : Ma
   pub record InStep (st : State) (f : Flat) : Type 0 where
     pub unchanged : setupOf (st .registers) ≡ s
     pub lent : 9 * cellCount s ≤ length (st .cells)
-    pub sane : Sound f
-    pub held : (a k : ℕ) → cellOf s a ≡ some k → Holds cols good f (a / 8) (cellAt (st .cells) k)
+    pub marks : MarksBelow72 f
+    pub stored : (a k : ℕ) → cellOf s a ≡ some k → StandsFor cols good f (a / 8) (cellAt (st .cells) k)
 
-  pub start : (r : Registers) (n : ℕ) → setupOf r ≡ s → 9 * cellCount s ≤ n → InStep (record { registers = r; cells = replicate n 0 }) blank
+  pub start : (r : Registers) (n : ℕ) → setupOf r ≡ s → 9 * cellCount s ≤ n → InStep (state r (replicate n 0)) blank
   unfolding blank
   start r n e h =
       record {
         unchanged = e;
         lent = rw length-replicate h;
-        sane = λ q. tt;
-        held = λ a k i.
+        marks = λ q. tt;
+        stored = λ a k i.
             let w : k < cellCount s = map .within a k i in
             cell-zeros n k (omega arith) ∙ sym (ap (encode cols) (octet-zero (a / 8)) ∙ encode-zeros cols);
       }
@@ -68,47 +67,47 @@ module _ (cols : List ℕ) (good : accepted cols ≡ true) (s : Setup) (map : Ma
   is-lent st f m a k i = let w : k < cellCount s = map .within a k i in fits-lent (st .cells) k (omega (arith, m .lent))
 
   -- an access to cell k
-  module _ (st : State) (f : Flat) (m : InStep st f) (x : Access) (r : Allowed x) (fr : Fresh f x) (k : ℕ) (i : cellOf s (addressOf x) ≡ some k) where
+  module _ (st : State) (f : Flat) (m : InStep st f) (x : Access) (r : Allowed x) (fr : FindsNoMark f x) (k : ℕ) (i : cellOf s (addressOf x) ≡ some k) where
     abbrev old : List ℕ
     old = cellAt (st .cells) k
 
-    abbrev what : Option (List ℕ)
-    what = onCell cols x old .1
+    abbrev new : Option (List ℕ)
+    new = onCell cols x old .1
 
-    abbrev g : Flat
-    g = flatHeld f x .1
+    abbrev flat-after : Flat
+    flat-after = flatInSpan f x .1
 
-    here : Agree cols good f x old
-    here = agree cols good f (m .sane) old x r fr (m .held (addressOf x) k i)
+    agreed : Agree cols good f x old
+    agreed = agree cols good f (m .marks) old x r fr (m .stored (addressOf x) k i)
 
-    room : isLent (st .cells) k ≡ true
-    room = is-lent st f m (addressOf x) k i
+    lent-here : isLent (st .cells) k ≡ true
+    lent-here = is-lent st f m (addressOf x) k i
 
-    nine : length (after what old) ≡ 9
-    nine =
-        ap length (here .stands)
-        ∙ coded-length cols good (g .mark (addressOf x / 8)) (octet (g .byte) (addressOf x / 8)) (octet-length (g .byte) (addressOf x / 8))
+    nine-bytes : length (after new old) ≡ 9
+    nine-bytes =
+        ap length (agreed .stands)
+        ∙ coded-length cols good (flat-after .mark (addressOf x / 8)) (octet (flat-after .byte) (addressOf x / 8)) (octet-length (flat-after .byte) (addressOf x / 8))
 
-    held-on : (a j : ℕ) → cellOf s a ≡ some j → Holds cols good g (a / 8) (cellAt (putAt what (st .cells) k) j)
-    held-on a j ij = go (ℕ-discrete (a / 8) (addressOf x / 8))
+    all-stored : (a j : ℕ) → cellOf s a ≡ some j → StandsFor cols good flat-after (a / 8) (cellAt (putAt new (st .cells) k) j)
+    all-stored a j ij = go (ℕ-discrete (a / 8) (addressOf x / 8))
       where
-        go : Dec (a / 8 ≡ addressOf x / 8) → Holds cols good (flatHeld f x .1) (a / 8) (cellAt (putAt what (st .cells) k) j)
+        go : Dec (a / 8 ≡ addressOf x / 8) → StandsFor cols good (flatInSpan f x .1) (a / 8) (cellAt (putAt new (st .cells) k) j)
         go (yes e) =
             let jk : j ≡ k = let p : cellOf s a ≡ cellOf s (addressOf x) = map .same a (addressOf x) e in cc in
-            ap (cellAt (putAt what (st .cells) k)) jk ∙ put-at-same (st .cells) k room what nine ∙ rw e (here .stands)
+            ap (cellAt (putAt new (st .cells) k)) jk ∙ put-at-same (st .cells) k lent-here new nine-bytes ∙ rw e (agreed .stands)
         go (no ne) =
             let jk : j ≢ k = λ e. ne (map .apart a (addressOf x) k (ij ∙ ap some e) i) in
-            let al : Alone f (flatHeld f x .1) (a / 8) = alone f x r (a / 8) ne in
-            put-at-other (st .cells) k room what nine j jk (is-lent st f m a j ij)
-            ∙ m .held a j ij ∙ sym (ap₂ (coded cols good) (al .mark) (al .bytes))
+            let al : Untouched f (flatInSpan f x .1) (a / 8) = others-untouched f x r (a / 8) ne in
+            put-at-other (st .cells) k lent-here new nine-bytes j jk (is-lent st f m a j ij)
+            ∙ m .stored a j ij ∙ sym (ap₂ (coded cols good) (al .mark) (al .bytes))
 
-    held-step : InStep (record { registers = reported (onCell cols x old .0 .kind) (addressOf x) (st .registers); cells = putAt what (st .cells) k }) g
-    held-step =
+    step-on : InStep (state (reported (onCell cols x old .0 .kind) (addressOf x) (st .registers)) (putAt new (st .cells) k)) flat-after
+    step-on =
         record {
           unchanged = setup-reported (onCell cols x old .0 .kind) (addressOf x) (st .registers) ∙ m .unchanged;
-          lent = rw (put-at-length (st .cells) k room what nine) (m .lent);
-          sane = sound f x r (m .sane);
-          held = held-on;
+          lent = rw (put-at-length (st .cells) k lent-here new nine-bytes) (m .lent);
+          marks = marks-below f x r (m .marks);
+          stored = all-stored;
         }
 
   -- what the two give at an access, and that they stay in step
@@ -116,21 +115,21 @@ module _ (cols : List ℕ) (good : accepted cols ≡ true) (s : Setup) (map : Ma
     pub answer : p .0 ≡ q .0
     pub next : InStep (p .1) (q .1)
 
-  pub access-alike : (st : State) (f : Flat) → InStep st f → (x : Access) → Allowed x → Fresh f x
+  pub access-alike : (st : State) (f : Flat) → InStep st f → (x : Access) → Allowed x → FindsNoMark f x
       → Alike (access cols st x) (flatAccess (spansOf s) f x)
-  unfolding access accessAt flatAccess
+  unfolding access accessAt onTarget flatAccess
   access-alike st f m x r fr = rw (m .unchanged, map .spanned (addressOf x)) (go (cellOf s (addressOf x)) refl)
     where
-      go : (o : Option ℕ) → cellOf s (addressOf x) ≡ o → Alike (accessAt cols o st x) (cond (isSome o) (flatHeld f x) (missed x, f))
+      go : (o : Option ℕ) → cellOf s (addressOf x) ≡ o → Alike (accessAt cols o st x) (cond (isSome o) (flatInSpan f x) (missed x, f))
       go none i =
           record {
             answer = refl;
             next =
                 record {
-                  unchanged = setup-reported NoBank (addressOf x) (st .registers) ∙ m .unchanged;
+                  unchanged = setup-reported (missed x .kind) (addressOf x) (st .registers) ∙ m .unchanged;
                   lent = m .lent;
-                  sane = m .sane;
-                  held = m .held;
+                  marks = m .marks;
+                  stored = m .stored;
                 };
           }
-      go (some k) i = record { answer = here st f m x r fr k i .answer; next = held-step st f m x r fr k i }
+      go (some k) i = record { answer = agreed st f m x r fr k i .answer; next = step-on st f m x r fr k i }

@@ -1,5 +1,4 @@
--- "The flat machine", document 01's term: bytes by address, marks by doubleword, and the spans; no cell and no check byte.
--- Assumes nothing.
+-- The flat machine: bytes by address, marks by doubleword, and the spans; no cells and no check bytes.
 use Prim.Native.Nat.{ℕ, zero, suc, _+_, _-_, _/_}
 use mathlib.Core.Bool.{cond, _&&_}
 use mathlib.Core.List.{List, [], _∷_}
@@ -9,53 +8,53 @@ use lib.ListN.{length, getD}
 use Rattle.refusals.specs.Paper.{Declined, refused, given}
 use Rattle.calls.specs.declared.Kind.{Kind}
 use Rattle.calls.specs.declared.Kind.the-variants.{Clean, Corrected, Stored, Flipped}
-use Rattle.memory.specs.Access.{Access, read, write, flip, scrub, addressOf, parts, Got, got, Given, Call, memory, readRegister, writeRegister}
-use Rattle.memory.specs.Spans.{Spans, byCall, missed}
+use Rattle.calls.specs.Calls.{Access, readIn, writeIn, flipIn, scrubIn, addressOf, parts, Got, got, Given, Call, memory, readRegister, writeRegister}
+use Rattle.calls.specs.Spans.{Spans, byCall, missed}
 
--- "one byte for each address in them, and a mark for each doubleword": doubleword q has the addresses from 8 q on, and its mark is
--- document 01's term. There a mark only stands or not; here it also remembers the flipped bit, for the proof, and no answer reads that. Outside
--- the spans nothing is ever looked at
+-- FLAT-1: a byte for each address, and a mark for doubleword q, whose addresses are those from 8 q on. FLAT-5: the mark remembers the flipped bit,
+-- for the proof; no answer reads it. Outside the spans nothing is ever read
 pub record Flat : Type 0 where
   pub byte : ℕ → ℕ
   pub mark : ℕ → Option ℕ
 
--- "At first bytes are 0 and no mark stands."
+-- FLAT-1: at first all bytes are 0 and all marks clear
 unfoldable pub blank : Flat
 blank = record { byte = λ a. 0; mark = λ q. none }
 
--- "corrected or clean as the mark stands"
+-- FLAT-3: corrected or clean, by the mark
 abbrev pub byMark : Option ℕ → Kind
 byMark none = Clean
 byMark (some b) = Corrected
 
--- the n bytes from the address a on
+-- FLAT-3: the n bytes from the address a on
 abbrev pub bytesFrom : (ℕ → ℕ) → ℕ → ℕ → List ℕ
 bytesFrom f a zero = []
 bytesFrom f a (suc n) = f a ∷ bytesFrom f (suc a) n
 
--- the bytes with bs put from the address a on
-unfoldable pub put : (ℕ → ℕ) → ℕ → List ℕ → ℕ → ℕ
-put f a bs x = cond (leb a x && ltb x (a + length bs)) (getD bs (x - a) 0) (f x)
+-- FLAT-2: the bytes with bs written from the address a on
+unfoldable pub withBytes : (ℕ → ℕ) → ℕ → List ℕ → ℕ → ℕ
+withBytes f a bs x = cond (leb a x && ltb x (a + length bs)) (getD bs (x - a) 0) (f x)
 
--- the marks with that of doubleword q set or cleared
-unfoldable pub marked : (ℕ → Option ℕ) → ℕ → Option ℕ → ℕ → Option ℕ
-marked m q v x = cond (eqb x q) v (m x)
+-- FLAT-4, FLAT-5: the marks with that of doubleword q set or cleared
+unfoldable pub withMark : (ℕ → Option ℕ) → ℕ → Option ℕ → ℕ → Option ℕ
+withMark m q v x = cond (eqb x q) v (m x)
 
--- "An accepted write puts its bytes, answers 'stored' if 8, else corrected or clean as the mark stands, then clears it. A scrub answers by
--- the mark, then clears it. A read gives the bytes and answers by the mark. A flip sets the mark."
-unfoldable pub flatHeld : Flat → Access → Got × Flat
-flatHeld f (read a n) = (got (byMark (f .mark (a / 8))) (bytesFrom (f .byte) a n), f)
-flatHeld f (write a bs) = (
+-- an accepted access inside the spans. FLAT-3: a read gives bytes and answers by the mark; FLAT-2: a write stores its bytes, answers "stored" or by
+-- the mark, and clears it; FLAT-5: a flip sets the mark; FLAT-4: a scrub answers by the mark and clears it
+unfoldable pub flatInSpan : Flat → Access → Got × Flat
+flatInSpan f (readIn a n) = (got (byMark (f .mark (a / 8))) (bytesFrom (f .byte) a n), f)
+flatInSpan f (writeIn a bs) = (
   got (cond (eqb (length bs) 8) Stored (byMark (f .mark (a / 8)))) [],
-  record { byte = put (f .byte) a bs; mark = marked (f .mark) (a / 8) none },
+  record { byte = withBytes (f .byte) a bs; mark = withMark (f .mark) (a / 8) none },
 )
-flatHeld f (flip a b) = (got Flipped [], record { byte = f .byte; mark = marked (f .mark) (a / 8) (some b) })
-flatHeld f (scrub a) = (got (byMark (f .mark (a / 8))) [], record { byte = f .byte; mark = marked (f .mark) (a / 8) none })
+flatInSpan f (flipIn a b) = (got Flipped [], record { byte = f .byte; mark = withMark (f .mark) (a / 8) (some b) })
+flatInSpan f (scrubIn a) = (got (byMark (f .mark (a / 8))) [], record { byte = f .byte; mark = withMark (f .mark) (a / 8) none })
 
--- "A refused call, or one that selects no bank, does nothing to it."
+-- FLAT-7: an access that selects no bank leaves the flat machine as it is
 unfoldable pub flatAccess : Spans → Flat → Access → Got × Flat
-flatAccess spans f x = cond (spans .holds (addressOf x)) (flatHeld f x) (missed x, f)
+flatAccess spans f x = cond (spans .holds (addressOf x)) (flatInSpan f x) (missed x, f)
 
+-- accesses, one after the other
 unfoldable pub flatAccesses : Spans → Flat → List Access → List Got × Flat
 flatAccesses spans f [] = ([], f)
 flatAccesses spans f (x ∷ xs) =
@@ -63,16 +62,18 @@ flatAccesses spans f (x ∷ xs) =
     let rs = flatAccesses spans (r .1) xs in
     (r .0 ∷ rs .0, rs .1)
 
-unfoldable pub flatSettled : Declined → Spans → Flat → List Access → Given × Flat
-flatSettled (some n) spans f xs = (refused n, f)
-flatSettled none spans f xs = let r = flatAccesses spans f xs in (given (r .0), r .1)
+-- FLAT-7: a refused call leaves it as it is
+unfoldable pub flatPerformed : Declined → Spans → Flat → List Access → Given × Flat
+flatPerformed (some n) spans f xs = (refused n, f)
+flatPerformed none spans f xs = let r = flatAccesses spans f xs in (given (r .0), r .1)
 
--- "The error-register calls .. do nothing to it."
+-- FLAT-8: register calls leave it as it is
 unfoldable pub flatCall : Spans → Flat → Call → Option Given × Flat
-flatCall spans f (memory x) = let r = flatSettled (byCall spans x) spans f (parts x) in (some (r .0), r .1)
+flatCall spans f (memory c) = let r = flatPerformed (byCall spans c) spans f (parts c) in (some (r .0), r .1)
 flatCall spans f (readRegister o) = (none, f)
 flatCall spans f (writeRegister o v) = (none, f)
 
+-- LIST-4: each call starts from what the call before it left
 unfoldable pub flatRun : Spans → Flat → List Call → List (Option Given) × Flat
 flatRun spans f [] = ([], f)
 flatRun spans f (c ∷ cs) =

@@ -1,3 +1,5 @@
+pub mod LengthLaws
+pub mod LineEndLaws
 pub mod LineLaws
 pub mod TextLaws
 pub mod StepLaws

@@ -1,75 +1,71 @@
--- A text in chunks: lines in place, and any cut.
--- Assumes nothing.
+-- A text that arrives in chunks: it does not matter where it is cut.
 use mathlib.Core.Path.{_≡_, refl, sym, ap, _∙_}
 use mathlib.Core.List.{List, [], _∷_, _++_, append-assoc, append-nil}
-use Prim.Native.Nat.{ℕ, zero, suc, _+_, _-_, _<_, _≤_}
+use Prim.Native.Nat.{ℕ, zero, suc, _<_, _≤_}
 use native.Mathlib.Omega.{arith}
 use lib.Dec.{eqb, ltb}
-use lib.ListN.{length, getD, take, drop, length-take, drop-of-length-le}
-use lib.Seq.{take-all, append-snoc, drop-cons}
-use borrow.Author.Tests.{ltb-true, ltb-false, eq-eqb, ne-eqb}
+use lib.ListN.{length, take, drop, length-take}
+use lib.Seq.{take-all, append-snoc}
+use borrow.Author.Tests.{ltb-true, ltb-false}
 use Rattle.basics.proofs.RangeLaws.{byCases}
-use Rattle.memory.specs.Calls.{State}
-use Rattle.parser.specs.Format.{onto, parse}
+use Rattle.calls.specs.State.{State}
+use Rattle.parser.specs.Format.{prependByte, longestInputLine, parse}
 use Rattle.lines.specs.Line.{Printed, lineOf}
-use Rattle.lines.specs.Text.{linesOf, joined, lineLength, Fed, printed, textOf, fedByte, fed, ended, chunked, after}
+use Rattle.lines.specs.Text.{linesOf, joined, lineLength, mostCarried, Fed, carrying, startState, programOf, printed, textOf, fedByte, fed, ended, chunked, after}
 use Rattle.parser.proofs.FormatLaws.{parse-long}
 
--- ---- 41 bytes tell a line
+-- ---- the bytes that are carried are enough to know the line
 
-parse-take : (l : List ℕ) → parse (take 41 l) ≡ parse l
+parse-take : (l : List ℕ) → parse (take mostCarried l) ≡ parse l
 parse-take l =
-    byCases (ltb 40 (length l))
+    byCases (ltb longestInputLine (length l))
     (λ t.
-    let h = ltb-true 40 (length l) t in
-    let k : 40 < length (take 41 l) = simp length-take (omega arith) in
-    parse-long (take 41 l) k ∙ sym (parse-long l h))
-    (λ t. ap parse (take-all 41 l (omega (arith, ltb-false 40 (length l) t))))
+    let h = ltb-true longestInputLine (length l) t in
+    let k : longestInputLine < length (take mostCarried l) = simp length-take (omega arith) in
+    parse-long (take mostCarried l) k ∙ sym (parse-long l h))
+    (λ t. ap parse (take-all mostCarried l (omega (arith, ltb-false longestInputLine (length l) t))))
 
 take-keep : (n : ℕ) (x y : List ℕ) → take n (take n x ++ y) ≡ take n (x ++ y)
 take-keep zero x y = refl
 take-keep (suc n) [] y = refl
 take-keep (suc n) (a ∷ x) y = ap (λ (l : List ℕ). a ∷ l) (take-keep n x y)
 
-take-more : (c : List ℕ) (b : ℕ) (xs : List ℕ) → take 41 (take 41 (c ++ b ∷ []) ++ xs) ≡ take 41 (c ++ b ∷ xs)
-take-more c b xs = take-keep 41 (c ++ b ∷ []) xs ∙ ap (take 41) (append-snoc c b xs)
-
-abbrev pub kept : State → List ℕ → Fed
-kept st c = record { carried = c; state = st }
+take-more : (c : List ℕ) (b : ℕ) (xs : List ℕ) → take mostCarried (take mostCarried (c ++ b ∷ []) ++ xs) ≡ take mostCarried (c ++ b ∷ xs)
+take-more c b xs = take-keep mostCarried (c ++ b ∷ []) xs ∙ ap (take mostCarried) (append-snoc c b xs)
 
 module _ (cols : List ℕ) where
-  pub line-take : (st : State) (l : List ℕ) → lineOf cols st (take 41 l) ≡ lineOf cols st l
+  pub line-take : (st : State) (l : List ℕ) → lineOf cols st (take mostCarried l) ≡ lineOf cols st l
   unfolding lineOf
   line-take st l = rw (parse-take l)
 
-  line-kept : (st : State) (c : List ℕ) (b : ℕ) (y : List ℕ) → lineOf cols st (take 41 (c ++ b ∷ []) ++ y) ≡ lineOf cols st (c ++ b ∷ y)
-  line-kept st c b y = sym (line-take st (take 41 (c ++ b ∷ []) ++ y)) ∙ ap (lineOf cols st) (take-more c b y) ∙ line-take st (c ++ b ∷ y)
+  line-kept : (st : State) (c : List ℕ) (b : ℕ) (y : List ℕ) → lineOf cols st (take mostCarried (c ++ b ∷ []) ++ y) ≡ lineOf cols st (c ++ b ∷ y)
+  line-kept st c b y = sym (line-take st (take mostCarried (c ++ b ∷ []) ++ y)) ∙ ap (lineOf cols st) (take-more c b y) ∙ line-take st (c ++ b ∷ y)
 
   -- ---- up to the next LF
 
   -- no LF: the bytes are carried
-  pub fed-plain : (st : State) (xs c : List ℕ) → lineLength xs ≡ length xs → length c ≤ 41 → fed cols (kept st c) xs ≡ ([], kept st (take 41 (c ++ xs)))
+  pub fed-plain : (st : State) (xs c : List ℕ) → lineLength xs ≡ length xs → length c ≤ mostCarried → fed cols (carrying st c) xs ≡ ([], carrying st (take mostCarried (c ++ xs)))
   unfolding fed fedByte lineLength
-  fed-plain st [] c h k = rw (append-nil c, take-all 41 c k)
+  fed-plain st [] c h k = rw (append-nil c, take-all mostCarried c k)
   fed-plain st (b ∷ xs) c h k =
       byCases (eqb b 0x0A) (λ t. let z : 0 ≡ suc (length xs) = rw t at h in absurd (omega arith))
       (λ t.
       let n : suc (lineLength xs) ≡ suc (length xs) = rw t at h in
-      let m : length (take 41 (c ++ b ∷ [])) ≤ 41 = simp length-take (omega arith) in
-      rw (t, fed-plain st xs (take 41 (c ++ b ∷ [])) (omega arith) m, take-more c b xs))
+      let m : length (take mostCarried (c ++ b ∷ [])) ≤ mostCarried = simp length-take (omega arith) in
+      rw (t, fed-plain st xs (take mostCarried (c ++ b ∷ [])) (omega arith) m, take-more c b xs))
 
-  -- up to LF: a line
+  -- up to an LF: a line
   pub fed-line : (st : State) (xs c : List ℕ) → lineLength xs < length xs
-      → fed cols (kept st c) xs
+      → fed cols (carrying st c) xs
       ≡ after (lineOf cols st (c ++ take (lineLength xs) xs) .0)
-      (fed cols (kept (lineOf cols st (c ++ take (lineLength xs) xs) .1) []) (drop (suc (lineLength xs)) xs))
+      (fed cols (carrying (lineOf cols st (c ++ take (lineLength xs) xs) .1) []) (drop (suc (lineLength xs)) xs))
   unfolding fed fedByte lineLength
   fed-line st [] c h = absurd (omega arith)
   fed-line st (b ∷ xs) c h =
       byCases (eqb b 0x0A) (λ t. rw (t, append-nil c))
       (λ t.
       let n : suc (lineLength xs) < suc (length xs) = rw t at h in
-      rw (t, fed-line st xs (take 41 (c ++ b ∷ [])) (omega arith), line-kept st c b (take (lineLength xs) xs)))
+      rw (t, fed-line st xs (take mostCarried (c ++ b ∷ [])) (omega arith), line-kept st c b (take (lineLength xs) xs)))
 
   -- ---- any cut
 
@@ -118,12 +114,12 @@ module _ (cols : List ℕ) where
   with-none (l ∷ ls) = refl
 
   with-byte : (st : State) (c : List ℕ) (b : ℕ) (ls : List (List ℕ))
-      → printed cols st (withCarried (take 41 (c ++ b ∷ [])) ls) ≡ printed cols st (withCarried c (onto b ls))
+      → printed cols st (withCarried (take mostCarried (c ++ b ∷ [])) ls) ≡ printed cols st (withCarried c (prependByte b ls))
   with-byte st [] b [] = refl
-  with-byte st (a ∷ c) b [] = printed-first st (take 41 (a ∷ c ++ b ∷ [])) (a ∷ c ++ b ∷ []) [] (line-take st (a ∷ c ++ b ∷ []))
+  with-byte st (a ∷ c) b [] = printed-first st (take mostCarried (a ∷ c ++ b ∷ [])) (a ∷ c ++ b ∷ []) [] (line-take st (a ∷ c ++ b ∷ []))
   with-byte st c b (l ∷ ls) =
-      ap (printed cols st) (with-line (take 41 (c ++ b ∷ [])) l ls)
-      ∙ printed-first st (take 41 (c ++ b ∷ []) ++ l) (c ++ b ∷ l) ls (line-kept st c b l)
+      ap (printed cols st) (with-line (take mostCarried (c ++ b ∷ [])) l ls)
+      ∙ printed-first st (take mostCarried (c ++ b ∷ []) ++ l) (c ++ b ∷ l) ls (line-kept st c b l)
       ∙ ap (printed cols st) (sym (with-line c (b ∷ l) ls))
 
   ended-is : (st : State) (c : List ℕ) → ended cols st c ≡ printed cols st (withCarried c [])
@@ -131,38 +127,27 @@ module _ (cols : List ℕ) where
   ended-is st [] = refl
   ended-is st (b ∷ c) = rw (append-nil (lineOf cols st (b ∷ c) .0))
 
-  text-is : (xs c : List ℕ) (st : State) → endedAfter (fed cols (kept st c) xs) ≡ printed cols st (withCarried c (linesOf xs))
+  text-is : (xs c : List ℕ) (st : State) → endedAfter (fed cols (carrying st c) xs) ≡ printed cols st (withCarried c (linesOf xs))
   unfolding fed fedByte linesOf
   text-is [] c st = ended-is st c
-  text-is (b ∷ xs) c st = byCases (eqb b 0x0A) (λ t. rw t (lf xs c st (text-is xs))) (λ t. rw t (text-is xs (take 41 (c ++ b ∷ [])) st ∙ with-byte st c b (linesOf xs)))
+  text-is (b ∷ xs) c st = byCases (eqb b 0x0A) (λ t. rw t (lf xs c st (text-is xs))) (λ t. rw t (text-is xs (take mostCarried (c ++ b ∷ [])) st ∙ with-byte st c b (linesOf xs)))
     where
-      lf : (xs c : List ℕ) (st : State) → ((c : List ℕ) (st : State) → endedAfter (fed cols (kept st c) xs) ≡ printed cols st (withCarried c (linesOf xs)))
-          → endedAfter (after (lineOf cols st c .0) (fed cols (kept (lineOf cols st c .1) []) xs)) ≡ printed cols st (withCarried c ([] ∷ linesOf xs))
+      lf : (xs c : List ℕ) (st : State) → ((c : List ℕ) (st : State) → endedAfter (fed cols (carrying st c) xs) ≡ printed cols st (withCarried c (linesOf xs)))
+          → endedAfter (after (lineOf cols st c .0) (fed cols (carrying (lineOf cols st c .1) []) xs)) ≡ printed cols st (withCarried c ([] ∷ linesOf xs))
       lf xs c st later =
           let r = lineOf cols st c in
-          let x = fed cols (kept (r .1) []) xs in
+          let x = fed cols (carrying (r .1) []) xs in
           append-after (r .0) x
           ∙ ap (after (r .0)) (later [] (r .1) ∙ ap (printed cols (r .1)) (with-none (linesOf xs)))
           ∙ first-printed st c (linesOf xs)
           ∙ ap (printed cols st) (sym (with-line c [] (linesOf xs)))
 
-  -- feeding a text in any cut prints what the whole text prints, and leaves the same record and cells
-  pub any-cut : (st : State) (cs : List (List ℕ)) → chunked cols (kept st []) cs ≡ textOf cols st (joined cs)
+  -- feeding a text in any cut prints what the whole text prints, and leaves the same state
+  pub any-cut : (st : State) (cs : List (List ℕ)) → chunked cols (carrying st []) cs ≡ textOf cols st (joined cs)
   unfolding textOf
-  any-cut st cs = chunked-is cs (kept st []) ∙ text-is (joined cs) [] st ∙ ap (printed cols st) (with-none (linesOf (joined cs)))
+  any-cut st cs = chunked-is cs (carrying st []) ∙ text-is (joined cs) [] st ∙ ap (printed cols st) (with-none (linesOf (joined cs)))
 
--- ---- the next LF, in a loop
-
-pub length-lf : (l : List ℕ) (i : ℕ) → i < length l → getD l i 0 ≡ 0x0A → lineLength (drop i l) ≡ 0
-unfolding lineLength
-length-lf l i h e = rw (drop-cons l i 0 h, eq-eqb (getD l i 0) 0x0A e)
-
-pub length-past : (l : List ℕ) (i j : ℕ) → i + 1 ≡ j → i < length l → (getD l i 0 ≡ 0x0A → ⊥) → lineLength (drop i l) ≡ suc (lineLength (drop j l))
-unfolding lineLength
-length-past l i j s h e =
-    let t : j ≡ suc i = omega arith in
-    rw (t, drop-cons l i 0 h, ne-eqb (getD l i 0) 0x0A e)
-
-pub length-end : (l : List ℕ) (i : ℕ) → length l ≤ i → lineLength (drop i l) ≡ 0
-unfolding lineLength
-length-end l i h = rw (drop-of-length-le l h)
+  -- and so does the program
+  pub program-any-cut : (cs : List (List ℕ)) → chunked cols (carrying startState []) cs .0 ≡ programOf cols (joined cs)
+  unfolding programOf
+  program-any-cut cs = ap (λ (p : Printed). p .0) (any-cut startState cs)

@@ -1,70 +1,94 @@
--- "The line program": a whole text, and a text that comes in chunks. The columns of the check code come first.
--- Assumes nothing.
-use Prim.Native.Nat.{ℕ, suc}
+-- A whole text, and a text that arrives in pieces. The columns of the check code come first.
+use Prim.Native.Nat.{ℕ, suc, _+_, _*_}
 use mathlib.Core.Bool.{cond}
 use mathlib.Core.List.{List, [], _∷_, _++_}
 use lib.Dec.{eqb}
-use lib.ListN.{take}
-use Rattle.memory.specs.Calls.{State}
-use Rattle.parser.specs.Format.{onto}
+use lib.ListN.{take, replicate}
+use Rattle.registers.specs.Record.{fresh}
+use Rattle.calls.specs.State.{State, state}
+use Rattle.parser.specs.Format.{prependByte, longestInputLine}
 use Rattle.lines.specs.Line.{Printed, lineOf}
 
--- "lines ended by LF (the last LF may lack; ..)": what stands after the last LF is a line if it has a byte
+-- LINE-1: the lines of a text; bytes after the last LF are a line too
 unfoldable pub linesOf : List ℕ → List (List ℕ)
 linesOf [] = []
-linesOf (b ∷ bs) = cond (eqb b 0x0A) ([] ∷ linesOf bs) (onto b (linesOf bs))
+linesOf (b ∷ bs) = cond (eqb b 0x0A) ([] ∷ linesOf bs) (prependByte b (linesOf bs))
 
 -- the number of bytes before the first LF
 unfoldable pub lineLength : List ℕ → ℕ
 lineLength [] = 0
 lineLength (b ∷ bs) = cond (eqb b 0x0A) 0 (suc (lineLength bs))
 
--- all the chunks of a text, joined
+-- the pieces of a text, joined
 abbrev pub joined : List (List ℕ) → List ℕ
 joined [] = []
 joined (c ∷ cs) = c ++ joined cs
 
--- what is kept between chunks: the bytes since the last LF, of which 41 tell a line that is too long; the record and the cells
+-- LINE-1: the most bytes of an unfinished line that are kept; one more than a line may have shows that it is too long
+abbrev pub mostCarried : ℕ
+mostCarried = longestInputLine + 1
+
+-- what is kept between pieces: the bytes since the last LF, as far as they matter, and the record and the cells
 pub record Fed : Type 0 where
   pub carried : List ℕ
   pub state : State
 
--- what is printed after w
+-- what is kept, made from its two parts
+abbrev pub carrying : State → List ℕ → Fed
+carrying st c = record { carried = c; state = st }
+
+-- what r prints, printed behind w
 abbrev pub after : {A : Type 0} → List ℕ → List ℕ × A → List ℕ × A
 after w r = (w ++ r .0, r .1)
 
+-- LINE-9: the number of cells that all lines share
+abbrev pub lentCells : ℕ
+lentCells = 7280
+
+-- LINE-9: a fresh record, and n lent bytes that are 0
+abbrev pub freshState : ℕ → State
+freshState n = state fresh (replicate n 0)
+
+-- LINE-9: what the program starts from
+unfoldable pub startState : State
+startState = freshState (9 * lentCells)
+
 module _ (cols : List ℕ) where
-  -- "All its lines share one record .. and 7,280 lent cells": one line after the other
+  -- LINE-9, LINE-10: one line after the other, on the same record and cells
   unfoldable pub printed : State → List (List ℕ) → Printed
   printed st [] = ([], st)
   printed st (l ∷ ls) =
       let r = lineOf cols st l in
       after (r .0) (printed (r .1) ls)
 
-  -- what a text prints, and the record and the cells after it
+  -- LINE-10: what a text prints, and the record and cells after it
   unfoldable pub textOf : State → List ℕ → Printed
   textOf st text = printed st (linesOf text)
 
-  -- a byte of a chunk: LF prints the line that it ends
+  -- LINE-10: what the program prints
+  unfoldable pub programOf : List ℕ → List ℕ
+  programOf text = textOf startState text .0
+
+  -- LINE-1: one byte of a piece; an LF executes the line that it ends
   unfoldable pub fedByte : Fed → ℕ → List ℕ × Fed
   fedByte f b =
       cond (eqb b 0x0A)
-      (let r = lineOf cols (f .state) (f .carried) in (r .0, record { carried = []; state = r .1 }))
-      ([], record { carried = take 41 (f .carried ++ b ∷ []); state = f .state })
+      (let r = lineOf cols (f .state) (f .carried) in (r .0, carrying (r .1) []))
+      ([], carrying (f .state) (take mostCarried (f .carried ++ b ∷ [])))
 
-  -- a chunk
+  -- LINE-10: a piece of input, byte by byte
   unfoldable pub fed : Fed → List ℕ → List ℕ × Fed
   fed f [] = ([], f)
   fed f (b ∷ bs) =
       let r = fedByte f b in
       after (r .0) (fed (r .1) bs)
 
-  -- the end of the input
+  -- LINE-1: at the end of the input, bytes without an LF are a line
   unfoldable pub ended : State → List ℕ → Printed
   ended st [] = ([], st)
   ended st (b ∷ bs) = lineOf cols st (b ∷ bs)
 
-  -- a text in chunks, one after the other, and its end
+  -- LINE-10: a text in pieces, one after the other, and its end
   unfoldable pub chunked : Fed → List (List ℕ) → Printed
   chunked f [] = ended (f .state) (f .carried)
   chunked f (c ∷ cs) =

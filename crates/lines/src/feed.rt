@@ -1,53 +1,95 @@
-// A text in chunks of any length: what is kept between them, and what each prints.
+// Input in chunks of any length: what is kept between chunks, and what each of them prints.
 ghost use mathlib.Core.Path.{_≡_};
 ghost use Prim.Native.Nat.{_+_, _*_, _-_, _≤_};
+ghost use mathlib.Core.List.{[]};
 ghost use lib.ListN.{length, drop};
 ghost use Rattle.ecc.specs.Columns.{columns};
-ghost use Rattle.lines.specs.Printed.{held, lined, lineInto, endInto};
-ghost use Rattle.lines.specs.Stepped.{carriedOf, kept, Reached, stepOf, left};
-ghost use Rattle.lines.specs.Text.{lineLength};
+ghost use Rattle.calls.specs.State.{state};
+ghost use Rattle.print.specs.Printed.{longestOutputLine};
+ghost use Rattle.lines.specs.Printed.{executed, lineInto, endInto};
+ghost use Rattle.lines.specs.Stepped.{carriedOf, keptOf, Reached, stepOf, stepped};
+ghost use Rattle.lines.specs.Text.{lineLength, carrying, freshState};
 use crate::buffers::Carry;
+use crate::buffers::MOST_CARRIED;
 use crate::buffers::joined;
 use crate::buffers::least;
-use crate::buffers::line_end;
+use crate::line::Executed;
 use crate::line::execute;
+use crate::line_ends::line_end;
+use print::LONGEST_OUTPUT_LINE;
+use registers::Registers;
 
-// What a chunk leaves, and how many bytes it wrote; nothing is changed where it is not taken.
+// LINE-9: the bytes of the 7,280 cells that all lines share.
+pub const LENT_BYTES: usize = 9 * 7280;
+
+// What is kept between chunks, beside the cells.
+pub struct Kept {
+    pub registers: Registers,
+    pub carry: Carry,
+}
+
+// What a chunk leaves, and how many bytes it wrote; nothing changes if the chunk is not taken.
 pub struct Stepped {
     pub taken: bool,
-    pub carry: Carry,
+    pub kept: Kept,
     pub written: usize,
 }
 
-// How far the whole lines of a chunk came, in it and in the output.
+// How far the complete lines of a chunk have been executed: an index into the chunk, one into the output, and the record.
 pub struct Progress {
+    pub registers: Registers,
     pub from: usize,
     pub at: usize,
 }
 
-// The line that the carried bytes are.
-fn carried_line(registers: &mut [u8; 256], cells: &mut [u8], carry: Carry, out: &mut [u8]) -> usize
-    ensures { λ n. ⌜ lined n (now (out .exit)) (now (registers .exit)) (now (cells .exit)) ≡ lineInto columns (held (now (registers .entry)) (now (cells .entry))) (carriedOf carry) (now (out .entry)) ⌝ }
-    ensures { λ n. ⌜ n ≤ 24 ⌝ }
+// Sets each of the lent bytes to 0.
+fn clear(cells: &mut [u8])
+    ensures { λ _. ⌜ now (cells .exit) ≡ freshState (length (now (cells .entry))) .cells ⌝ }
+{
+    let mut i: usize = 0;
+    while i < cells.len() {
+        cells[i] = 0;
+        i += 1;
+    }
+}
+
+// LINE-9: the start: a fresh record, cells that are 0, and no bytes carried.
+pub fn start(cells: &mut [u8]) -> Kept
+    ensures { λ k. ⌜ keptOf k (now (cells .exit)) ≡ carrying (freshState (length (now (cells .entry)))) [] ⌝ }
+{
+    clear(cells);
+    Kept {
+        registers: Registers::fresh(),
+        carry: Carry {
+            bytes: [0; MOST_CARRIED],
+            len: 0,
+        },
+    }
+}
+
+// Executes the carried bytes as a line.
+fn carried_line(registers: Registers, cells: &mut [u8], carry: Carry, out: &mut [u8]) -> Executed
+    ensures { λ x. ⌜ executed x (now (cells .exit)) (now (out .exit)) ≡ lineInto columns (state registers (now (cells .entry))) (carriedOf carry) (now (out .entry)) ⌝ }
 {
     let bytes = carry.bytes;
-    let n = least(carry.len, 41);
+    let n = least(carry.len, MOST_CARRIED);
     execute(registers, cells, &bytes[..n], out)
 }
 
-// The whole lines of a chunk from a place on, which follows an LF.
+// Executes the complete lines of a chunk from an index on; a line starts there.
 fn whole_lines(
-    registers: &mut [u8; 256],
+    registers: Registers,
     cells: &mut [u8],
     chunk: &[u8],
     from: usize,
     out: &mut [u8],
     at: usize,
 ) -> Progress
-    requires { ⌜ (from ≤ length (now chunk)) × (at + 24 * (length (now chunk) - from) ≤ length (now out)) ⌝ }
-    ensures { λ r. ⌜ Reached columns (now (chunk .entry)) (now (registers .entry)) (now (cells .entry)) from (now (out .entry)) at (now (registers .exit)) (now (cells .exit)) (r .from) (now (out .exit)) (r .at) ⌝ }
+    requires { ⌜ (from ≤ length (now chunk)) × (at + longestOutputLine * (length (now chunk) - from) ≤ length (now out)) ⌝ }
+    ensures { λ r. ⌜ Reached columns (now (chunk .entry)) (state registers (now (cells .entry))) from (now (out .entry)) at (state (r .registers) (now (cells .exit))) (r .from) (now (out .exit)) (r .at) ⌝ }
     ensures { λ r. ⌜ lineLength (drop (r .from) (now (chunk .entry))) ≡ length (now (chunk .entry)) - r .from ⌝ }
 {
+    let mut current = registers;
     let mut i = from;
     let mut n = at;
     while i < chunk.len() {
@@ -55,61 +97,72 @@ fn whole_lines(
         if end == chunk.len() {
             break;
         }
-        let printed = execute(registers, cells, &chunk[i..end], &mut out[n..]);
-        n += printed;
+        let line = execute(current, cells, &chunk[i..end], &mut out[n..]);
+        current = line.registers;
+        n += line.printed;
         i = end + 1;
     }
-    Progress { from: i, at: n }
+    Progress {
+        registers: current,
+        from: i,
+        at: n,
+    }
 }
 
-// A chunk of input of any length: the lines that it completes are executed, and their output put at the start of `out`, which has room
-// for 24 bytes for each byte of the chunk; else nothing is taken.
-pub fn step(
-    registers: &mut [u8; 256],
-    cells: &mut [u8],
-    carry: Carry,
-    chunk: &[u8],
-    out: &mut [u8],
-) -> Stepped
-    ensures { λ r. ⌜ left r (now (registers .exit)) (now (cells .exit)) (now (out .exit)) ≡ stepOf columns (kept (now (registers .entry)) (now (cells .entry)) (carriedOf carry)) (now (chunk .entry)) (now (out .entry)) ⌝ }
-    ensures { λ r. ⌜ r .written ≤ length (now (out .exit)) ⌝ }
+// Takes a chunk of input of any length: the lines that it completes are executed, and their output is written to the start of `out`. If `out`
+// has no room for the longest line for each byte of the chunk, nothing is taken.
+pub fn step(kept: Kept, cells: &mut [u8], chunk: &[u8], out: &mut [u8]) -> Stepped
+    ensures { λ r. ⌜ stepped r (now (cells .exit)) (now (out .exit)) ≡ stepOf columns (keptOf kept (now (cells .entry))) (now (chunk .entry)) (now (out .entry)) ⌝ }
 {
-    if out.len() / 24 < chunk.len() {
+    if out.len() / LONGEST_OUTPUT_LINE < chunk.len() {
         return Stepped {
             taken: false,
-            carry: carry,
+            kept: kept,
             written: 0,
         };
     }
     let end = line_end(chunk, 0);
+    let registers = kept.registers;
+    let carry = kept.carry;
     let carried = carry.bytes;
-    let len = carry.len;
-    let first = joined(carried, len, &chunk[..end]);
+    let first = joined(carried, carry.len, &chunk[..end]);
     if end == chunk.len() {
         return Stepped {
             taken: true,
-            carry: first,
+            kept: Kept {
+                registers: registers,
+                carry: first,
+            },
             written: 0,
         };
     }
-    let at = carried_line(registers, cells, first, out);
-    let all = whole_lines(registers, cells, chunk, end + 1, out, at);
+    let line = carried_line(registers, cells, first, out);
+    let between = line.registers;
+    let all = whole_lines(between, cells, chunk, end + 1, out, line.printed);
     let from = all.from;
-    let rest = joined([0; 41], 0, &chunk[from..]);
+    let rest = joined([0; MOST_CARRIED], 0, &chunk[from..]);
+    let last = all.registers;
     Stepped {
         taken: true,
-        carry: rest,
+        kept: Kept {
+            registers: last,
+            carry: rest,
+        },
         written: all.at,
     }
 }
 
-// The end of the input: what is carried is a line, if it has a byte.
-pub fn finish(registers: &mut [u8; 256], cells: &mut [u8], carry: Carry, out: &mut [u8]) -> usize
-    ensures { λ n. ⌜ lined n (now (out .exit)) (now (registers .exit)) (now (cells .exit)) ≡ endInto columns (held (now (registers .entry)) (now (cells .entry))) (carriedOf carry) (now (out .entry)) ⌝ }
-    ensures { λ n. ⌜ n ≤ 24 ⌝ }
+// The end of the input: the carried bytes, if there are any, are a line (LINE-1).
+pub fn finish(kept: Kept, cells: &mut [u8], out: &mut [u8]) -> Executed
+    ensures { λ x. ⌜ executed x (now (cells .exit)) (now (out .exit)) ≡ endInto columns (state (kept .registers) (now (cells .entry))) (carriedOf (kept .carry)) (now (out .entry)) ⌝ }
 {
+    let registers = kept.registers;
+    let carry = kept.carry;
     if carry.len == 0 {
-        return 0;
+        return Executed {
+            registers: registers,
+            printed: 0,
+        };
     }
     carried_line(registers, cells, carry, out)
 }

@@ -1,65 +1,110 @@
--- What the definition of a call comes to, by its refusal and by the cell that its address has: for the proofs of the calls' code.
--- Assumes nothing.
+-- What a call of one access comes to, by its refusal and by what the access gives.
 use Prim.Native.Nat.{ℕ}
-use mathlib.Core.Path.{_≡_, refl}
-use mathlib.Core.Bool.{true, false}
-use mathlib.Core.Option.{none, some}
+use mathlib.Core.Path.{_≡_, refl, sym, ap, _∙_}
+use mathlib.Core.Bool.{not}
+use mathlib.Core.Option.{Option, none, some}
 use mathlib.Core.List.{List, [], _∷_, append-nil}
-use Rattle.refusals.specs.Paper.{Declined, _else_, refused, given}
+use lib.ListN.{length}
+use Rattle.basics.proofs.RangeLaws.{byCases}
+use Rattle.refusals.specs.Paper.{Declined, refuse, _else_, refused, given}
+use Rattle.refusals.proofs.ChainLaws.{else-none, else-left, else-right}
 use Rattle.registers.specs.declared.Registers.{Registers}
-use Rattle.banks.specs.Setup.{setupOf}
-use Rattle.banks.specs.Judge.{ready}
-use Rattle.banks.specs.Map.{cellOf}
-use Rattle.ecc.specs.Lending.{cellAt}
-use Rattle.calls.specs.declared.Kind.the-variants.{NoBank}
-use Rattle.memory.specs.Access.{Access, addressOf, parts}
-use Rattle.memory.specs.Spans.{byCall, missed}
+use Rattle.banks.specs.Setup.{Setup}
+use Rattle.banks.specs.Judge.{notReady}
+use Rattle.banks.specs.Map.{inSpan, located, cellOf}
+use Rattle.banks.proofs.MapLaws.{isSome}
+use Rattle.calls.specs.declared.Kind.{Kind}
+use Rattle.calls.specs.declared.Kind.the-variants.{Flipped}
+use Rattle.calls.specs.Calls.{MemoryCall, read, write, flip, scrub, Access, readIn, writeIn, flipIn, scrubIn, addressOf, parts, Got, got}
+use Rattle.calls.specs.Spans.{byCount, byBit, byArguments, bySpans, byCall}
+use Rattle.calls.specs.State.{State, state}
+use Rattle.calls.specs.Answers.{Effect, effectOf}
 use Rattle.error_registers.specs.Errors.{reported}
-use Rattle.memory.specs.Cells.{onCell}
-use Rattle.memory.specs.Calls.{State, spansOf, unlentAt, unlent, refusal, putAt, accessAt, access, accesses, settled, memoryCall, Effect, called}
+use Rattle.machine.specs.Cells.{onCell}
+use Rattle.machine.specs.Calls.{setup, spansOf, unlentAt, unlent, refusal, onTarget, accessAt, access, accesses, performed, memoryCall, called}
+use Rattle.memory.specs.CodeJudged.{judgedAt}
 
--- a chain that ends in nothing
-pub else-none : (x : Declined) → (x else none) ≡ x
-else-none none = refl
-else-none (some n) = refl
+-- a refused call leaves everything as it was
+abbrev pub unchanged : State → List ℕ → List ℕ → Effect
+unchanged st buffer n = record { answer = refused n; state = st; buffer = buffer }
 
-module _ (r : Registers) (cells : List ℕ) (x : Access) where
-  abbrev state : State
-  state = record { registers = r; cells = cells }
+pub called-refused : (cols : List ℕ) (st : State) (c : MemoryCall) (buffer n : List ℕ) → refusal st c ≡ some n → called cols st c buffer ≡ unchanged st buffer n
+unfolding called memoryCall performed
+called-refused cols st c buffer n h = rw h
 
-  pub refusal-unready : ready (setupOf r) ≡ false → refusal state x ≡ some (5 ∷ [])
-  unfolding refusal
-  refusal-unready h = rw h
+module _ (st : State) (c : MemoryCall) (x : Access) (one : parts c ≡ x ∷ []) where
+  -- all that refuses it, if no span does
+  pub refusal-at : bySpans (spansOf (setup st)) c ≡ none → refusal st c ≡ judgedAt st (addressOf x) (byArguments c)
+  unfolding refusal byCall unlent judgedAt
+  refusal-at h = rw (one, h, else-none (byArguments c), else-none (unlentAt (cellOf (setup st) (addressOf x)) (st .cells)))
 
-  pub refusal-ready : ready (setupOf r) ≡ true
-      → refusal state x ≡ (byCall (spansOf (setupOf r)) x else unlentAt (cellOf (setupOf r) (addressOf x)) cells)
-  unfolding refusal unlent parts
-  refusal-ready h = rw (h, else-none (unlentAt (cellOf (setupOf r) (addressOf x)) cells))
+  -- what it gives and leaves, if nothing refuses it
+  module _ (cols buffer : List ℕ) (free : refusal st c ≡ none) (k : Kind) (new cells : List ℕ) (r : Registers) (o : Option ℕ)
+      (found : cellOf (setup st) (addressOf x) ≡ o) (does : _≡_ (got k new, cells) (onTarget cols o (st .cells) x))
+      (reports : r ≡ reported k (addressOf x) (st .registers)) where
+    pub called-done : called cols st c buffer ≡ record { answer = given (k ∷ []); state = state r cells; buffer = new }
+    unfolding called memoryCall performed accesses access accessAt
+    called-done = rw (free, one, found, ← does, ← reports, append-nil new)
 
-  module _ (cols buffer : List ℕ) where
-    pub called-refused : (n : List ℕ) → refusal state x ≡ some n
-        → called cols r cells x buffer ≡ record { answer = refused n; registers = r; cells = cells; buffer = buffer }
-    unfolding memoryCall settled
-    called-refused n h = rw h
+-- ---- 10
+abbrev pub withoutBank : Option ℕ → Declined
+withoutBank none = some (10 ∷ [])
+withoutBank (some k) = none
 
-    -- no bank is selected
-    pub called-missed : refusal state x ≡ none → cellOf (setupOf r) (addressOf x) ≡ none
-        → called cols r cells x buffer
-        ≡ record { answer = given (missed x .kind ∷ []); registers = reported NoBank (addressOf x) r; cells = cells; buffer = missed x .bytes }
-    unfolding memoryCall settled parts accesses access accessAt
-    called-missed h i = rw (h, i, append-nil (missed x .bytes))
+spans-hold : (s : Setup) (a : ℕ) → inSpan s a ≡ isSome (cellOf s a)
+unfolding cellOf located
+spans-hold s a = byCases (inSpan s a) (λ t. rw t) (λ t. rw t)
 
-    -- the access goes to cell k
-    abbrev pub doneAt : ℕ → Effect
-    doneAt k =
-        let h = onCell cols x (cellAt cells k) in
-        record {
-          answer = given (h .0 .kind ∷ []);
-          registers = reported (h .0 .kind) (addressOf x) r;
-          cells = putAt (h .1) cells k;
-          buffer = h .0 .bytes;
-        }
+pub flip-refusal : (st : State) (a b : ℕ) → refusal st (flip a b) ≡ (judgedAt st a (byBit b) else withoutBank (cellOf (setup st) a))
+unfolding refusal byCall byArguments bySpans parts unlent unlentAt judgedAt
+flip-refusal st a b = rw (spans-hold (setup st) a) (go (notReady (setup st)) (byBit b) (cellOf (setup st) a))
+  where
+    go : (d e : Declined) (o : Option ℕ)
+        → (d else (e else refuse (not (isSome o)) (10 ∷ [])) else unlentAt o (st .cells) else none) ≡ ((d else e else unlentAt o (st .cells)) else withoutBank o)
+    go (some n) e o = refl
+    go none (some n) o = refl
+    go none none none = refl
+    go none none (some k) = else-none (unlentAt (some k) (st .cells)) ∙ sym (else-none (unlentAt (some k) (st .cells)))
 
-    pub called-at : (k : ℕ) → refusal state x ≡ none → cellOf (setupOf r) (addressOf x) ≡ some k → called cols r cells x buffer ≡ doneAt k
-    unfolding memoryCall settled parts accesses access accessAt
-    called-at k h i = rw (h, i, append-nil (onCell cols x (cellAt cells k) .0 .bytes))
+-- ---- the calls of one access
+module _ (st : State) (a : ℕ) where
+  pub read-refusal : (n : ℕ) → refusal st (read a n) ≡ judgedAt st a (byCount a n)
+  unfolding parts bySpans byArguments
+  read-refusal n = refusal-at st (read a n) (readIn a n) refl refl
+
+  pub write-refusal : (bs : List ℕ) → refusal st (write a bs) ≡ judgedAt st a (byCount a (length bs))
+  unfolding parts bySpans byArguments
+  write-refusal bs = refusal-at st (write a bs) (writeIn a bs) refl refl
+
+  pub scrub-refusal : refusal st (scrub a) ≡ judgedAt st a none
+  unfolding parts bySpans byArguments
+  scrub-refusal = refusal-at st (scrub a) (scrubIn a) refl refl
+
+pub read-part : (a n : ℕ) → parts (read a n) ≡ readIn a n ∷ []
+unfolding parts
+read-part a n = refl
+
+pub write-part : (a : ℕ) (bs : List ℕ) → parts (write a bs) ≡ writeIn a bs ∷ []
+unfolding parts
+write-part a bs = refl
+
+pub flip-part : (a b : ℕ) → parts (flip a b) ≡ flipIn a b ∷ []
+unfolding parts
+flip-part a b = refl
+
+pub scrub-part : (a : ℕ) → parts (scrub a) ≡ scrubIn a ∷ []
+unfolding parts
+scrub-part a = refl
+
+-- a judged call is not refused before its cell is looked at
+pub judged-arguments : (st : State) (a : ℕ) (d : Declined) → judgedAt st a d ≡ none → d ≡ none
+unfolding judgedAt
+judged-arguments st a d h =
+    let later = unlentAt (cellOf (setup st) a) (st .cells) in
+    else-left d later (else-right (notReady (setup st)) (d else later) h)
+
+-- the answer of a flip changes no register
+pub flip-reports : (cols : List ℕ) (st : State) (a b k : ℕ) (x : Kind) (cells : List ℕ) → _≡_ (got x [], cells) (onTarget cols (some k) (st .cells) (flipIn a b))
+    → st .registers ≡ reported x a (st .registers)
+unfolding onTarget onCell reported
+flip-reports cols st a b k x cells h = let f : x ≡ Flipped = ap (λ (q : Got × List ℕ). q .0 .kind) h in rw f

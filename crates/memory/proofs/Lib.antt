@@ -1,5 +1,3 @@
-pub mod Examples
 pub mod CallLaws
-pub mod AimLaws
-pub mod AccessLaws
-pub mod CellCalls
+pub mod JudgeLaws
+pub mod TargetLaws

@@ -1,5 +1,1 @@
-pub mod Access
-pub mod Spans
-pub mod Cells
-pub mod Calls
-pub mod Aim
+pub mod CodeJudged

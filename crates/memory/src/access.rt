@@ -1,67 +1,131 @@
-// What a call answers and leaves in the cells and the buffer. The record after it follows from the answer, and is left to `settle`: so a
-// caller that keeps the record in place copies nothing where it does not change.
+// One access to a lent cell: what it answers and what it stores. It is never refused. The columns of the check code are those that are lent,
+// or those of ECC-2 if none are.
 ghost use mathlib.Core.Path.{_≡_};
-ghost use mathlib.Core.List.{[]};
-ghost use Rattle.ecc.specs.Columns.{columns};
-ghost use Rattle.memory.specs.Calls.{leaves, calledAt, readCall, writeCall, flipCall, scrubCall};
-use crate::Answer;
-use crate::aim;
-use crate::aim::Target;
-use crate::bytes;
-use crate::cell;
+ghost use mathlib.Core.Bool.{true, cond};
+ghost use mathlib.Core.List.{List, []};
+ghost use mathlib.Core.Option.{some};
+ghost use Prim.Native.Nat.{ℕ, _+_, _%_, _≤_};
+ghost use lib.ListN.{length};
+ghost use Rattle.ecc.specs.Columns.{columnsFor};
+ghost use Rattle.ecc.specs.Doubleword.{bytesOfNumber};
+ghost use Rattle.ecc.specs.Cell.{encode, loadOf};
+ghost use Rattle.ecc.specs.CodeLoad.{decodedOf};
+ghost use Rattle.ecc.specs.Lending.{cellAt, isLent, putCell};
+ghost use Rattle.calls.specs.Calls.{readIn, writeIn, flipIn, scrubIn, Got, got};
+ghost use Rattle.machine.specs.Cells.{answerOf};
+ghost use Rattle.machine.specs.Calls.{onTarget};
+ghost use Rattle.memory.specs.CodeJudged.{isLost, isCorrected};
+use crate::bytes::copy_out;
+use crate::bytes::joined;
+use crate::bytes::merged;
+use crate::lent::cell_at;
+use crate::lent::put_cell;
 use calls::Kind;
-use refusals::Refusal;
-use refusals::Verdict;
-use registers::Registers;
+use ecc::Loaded;
+use ecc::Reading;
 
-pub fn answer_read(registers: Registers, cells: &[u8], address: u32, buffer: &mut [u8]) -> Answer
-    ensures { λ x. ⌜ leaves (calledAt registers address x) (now (cells .entry)) (now (buffer .exit)) ≡ readCall columns registers (now (cells .entry)) address (now (buffer .entry)) ⌝ }
+fn kind_of(reading: Reading) -> Kind
+    ensures { λ k. ⌜ k ≡ answerOf reading ⌝ }
 {
-    let target = aim::aim(registers, address, aim::judge_count(address, buffer.len()));
-    match target {
-        Target::Refused(x) => Answer::Refused(x),
-        Target::Nowhere => {
-            bytes::copy_out([255u8; 8], 0, buffer);
-            Answer::Done(Kind::NoBank)
-        }
-        Target::Cell(k) => cell::read_cell(cells, k, address, buffer),
+    match reading {
+        Reading::Clean => Kind::Clean,
+        Reading::Corrected(_) => Kind::Corrected,
+        Reading::Uncorrectable => Kind::Uncorrectable,
     }
 }
 
-pub fn answer_write(registers: Registers, cells: &mut [u8], address: u32, bytes: &[u8]) -> Answer
-    ensures { λ x. ⌜ leaves (calledAt registers address x) (now (cells .exit)) [] ≡ writeCall columns registers (now (cells .entry)) address (now (bytes .entry)) ⌝ }
+// The data bytes of the cell cannot be corrected.
+fn is_lost(reading: Reading) -> bool
+    ensures { λ t. ⌜ t ≡ isLost reading ⌝ }
 {
-    let target = aim::aim(registers, address, aim::judge_count(address, bytes.len()));
-    match target {
-        Target::Refused(x) => Answer::Refused(x),
-        Target::Nowhere => Answer::Done(Kind::NoBank),
-        Target::Cell(k) => {
-            if bytes.len() == 8 {
-                return cell::write_whole(cells, k, address, bytes);
-            }
-            cell::write_part(cells, k, address, bytes)
-        }
+    match reading {
+        Reading::Clean => false,
+        Reading::Corrected(_) => false,
+        Reading::Uncorrectable => true,
     }
 }
 
-pub fn answer_flip(registers: Registers, cells: &mut [u8], address: u32, bit: u8) -> Answer
-    ensures { λ x. ⌜ leaves (calledAt registers address x) (now (cells .exit)) [] ≡ flipCall columns registers (now (cells .entry)) address bit ⌝ }
+fn is_corrected(reading: Reading) -> bool
+    ensures { λ t. ⌜ t ≡ isCorrected reading ⌝ }
 {
-    let target = aim::aim(registers, address, aim::judge_bit(bit));
-    match target {
-        Target::Refused(x) => Answer::Refused(x),
-        Target::Nowhere => Answer::Refused(Refusal::FlipWithoutBank),
-        Target::Cell(k) => cell::flip_cell(cells, k, address, bit),
+    match reading {
+        Reading::Clean => false,
+        Reading::Corrected(_) => true,
+        Reading::Uncorrectable => false,
     }
 }
 
-pub fn answer_scrub(registers: Registers, cells: &mut [u8], address: u32) -> Answer
-    ensures { λ x. ⌜ leaves (calledAt registers address x) (now (cells .exit)) [] ≡ scrubCall columns registers (now (cells .entry)) address ⌝ }
+fn load(columns: &[u8], cells: &[u8], k: usize) -> Loaded
+    requires { ⌜ isLent (now cells) k ≡ true ⌝ }
+    ensures { λ x. ⌜ decodedOf x ≡ loadOf (columnsFor (now (columns .entry))) (cellAt (now (cells .entry)) k) ⌝ }
 {
-    let target = aim::aim(registers, address, Verdict::Accepted);
-    match target {
-        Target::Refused(x) => Answer::Refused(x),
-        Target::Nowhere => Answer::Done(Kind::NoBank),
-        Target::Cell(k) => cell::scrub_cell(cells, k, address),
+    ecc::load(columns, cell_at(cells, k))
+}
+
+fn store_if(wanted: bool, columns: &[u8], cells: &mut [u8], k: usize, doubleword: u64)
+    requires { ⌜ isLent (now cells) k ≡ true ⌝ }
+    ensures { λ _. ⌜ now (cells .exit) ≡ cond wanted (putCell (now (cells .entry)) k (encode (columnsFor (now (columns .entry))) (bytesOfNumber doubleword))) (now (cells .entry)) ⌝ }
+{
+    if wanted {
+        put_cell(cells, k, ecc::encode(columns, doubleword));
     }
+}
+
+pub(crate) fn read_cell(
+    columns: &[u8],
+    cells: &[u8],
+    k: usize,
+    address: u32,
+    buffer: &mut [u8],
+) -> Kind
+    requires { ⌜ (isLent (now cells) k ≡ true) × (address % 8 + length (now buffer) ≤ 8) ⌝ }
+    ensures { λ x. ⌜ (got x (now (buffer .exit)), now (cells .entry)) ≡ onTarget (columnsFor (now (columns .entry))) (some k) (now (cells .entry)) (readIn address (length (now (buffer .entry)))) ⌝ }
+{
+    let loaded = load(columns, cells, k);
+    copy_out(loaded.doubleword, (address % 8) as usize, buffer);
+    let reading = loaded.reading;
+    kind_of(reading)
+}
+
+// MEM-4: a write of eight bytes does not look at the old cell. MEM-5, MEM-6: a shorter one corrects it, merges its bytes and stores, unless the
+// cell is uncorrectable.
+pub(crate) fn write_cell(
+    columns: &[u8],
+    cells: &mut [u8],
+    k: usize,
+    address: u32,
+    bytes: &[u8],
+) -> Kind
+    requires { ⌜ (isLent (now cells) k ≡ true) × (address % 8 + length (now bytes) ≤ 8) ⌝ }
+    ensures { λ x. ⌜ (got x [], now (cells .exit)) ≡ onTarget (columnsFor (now (columns .entry))) (some k) (now (cells .entry)) (writeIn address (now (bytes .entry))) ⌝ }
+{
+    if bytes.len() == 8 {
+        store_if(true, columns, cells, k, joined(bytes));
+        return Kind::Stored;
+    }
+    let loaded = load(columns, cells, k);
+    let reading = loaded.reading;
+    let doubleword = merged(loaded.doubleword, (address % 8) as usize, bytes);
+    store_if(!is_lost(reading), columns, cells, k, doubleword);
+    kind_of(reading)
+}
+
+pub(crate) fn scrub_cell(columns: &[u8], cells: &mut [u8], k: usize, address: u32) -> Kind
+    requires { ⌜ isLent (now cells) k ≡ true ⌝ }
+    ensures { λ x. ⌜ (got x [], now (cells .exit)) ≡ onTarget (columnsFor (now (columns .entry))) (some k) (now (cells .entry)) (scrubIn address) ⌝ }
+{
+    let loaded = load(columns, cells, k);
+    let reading = loaded.reading;
+    store_if(is_corrected(reading), columns, cells, k, loaded.doubleword);
+    kind_of(reading)
+}
+
+// MEM-7: a flip inverts a bit, whatever the columns are.
+pub(crate) fn flip_cell(cells: &mut [u8], k: usize, address: u32, bit: u32) -> Kind
+    requires { ⌜ isLent (now cells) k ≡ true ⌝ }
+    ensures { λ x. ⌜ ((cols : List ℕ) → _≡_ {A = Got × List ℕ} (got x [], now (cells .exit)) (onTarget cols (some k) (now (cells .entry)) (flipIn address bit))) ⌝ }
+{
+    let cell = cell_at(cells, k);
+    put_cell(cells, k, ecc::flip(cell, bit as usize));
+    Kind::Flipped
 }

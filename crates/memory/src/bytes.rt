@@ -1,30 +1,96 @@
-// Bytes between a doubleword and the slice that a caller lends.
+// Copies bytes between a doubleword, a number with byte 0 lowest, and the slice that a caller lends.
 ghost use mathlib.Core.Path.{_≡_};
-ghost use Prim.Native.Nat.{_+_, _≤_};
-ghost use lib.ListN.{length, take, drop};
-ghost use Rattle.memory.specs.Cells.{merge};
+ghost use Prim.Native.Nat.{_+_, _≤_, _<_};
+ghost use lib.ListN.{length, getD, set, take, drop};
+ghost use Rattle.ecc.specs.Doubleword.{bytesOfNumber};
+ghost use Rattle.machine.specs.Cells.{merge};
 
-// The buffer filled from the doubleword's byte `offset` on.
-pub(crate) fn copy_out(doubleword: [u8; 8], offset: usize, buffer: &mut [u8])
-    requires { ⌜ offset + length (now buffer) ≤ 8 ⌝ }
-    ensures { λ _. ⌜ now (buffer .exit) ≡ take (length (now (buffer .entry))) (drop offset doubleword) ⌝ }
+// Eight lent bytes as a doubleword.
+pub(crate) fn joined(bytes: &[u8]) -> u64
+    requires { ⌜ length (now bytes) ≡ 8 ⌝ }
+    ensures { λ r. ⌜ bytesOfNumber r ≡ now (bytes .entry) ⌝ }
 {
+    ecc::joined([
+        bytes[0],
+        bytes[1],
+        bytes[2],
+        bytes[3],
+        bytes[4],
+        bytes[5],
+        bytes[6],
+        bytes[7],
+    ])
+}
+
+// Byte k of a doubleword.
+fn byte(doubleword: u64, k: usize) -> u8
+    requires { ⌜ k < 8 ⌝ }
+    ensures { λ b. ⌜ b ≡ getD (bytesOfNumber doubleword) k 0 ⌝ }
+{
+    ((doubleword >> (8 * k)) % 256) as u8
+}
+
+// Fills the buffer with all eight bytes of a doubleword.
+fn copy_all(doubleword: u64, buffer: &mut [u8])
+    requires { ⌜ length (now buffer) ≡ 8 ⌝ }
+    ensures { λ _. ⌜ now (buffer .exit) ≡ bytesOfNumber doubleword ⌝ }
+{
+    let b = doubleword / 256;
+    let c = b / 256;
+    let d = c / 256;
+    let e = d / 256;
+    let f = e / 256;
+    let g = f / 256;
+    let h = g / 256;
+    buffer[0] = (doubleword % 256) as u8;
+    buffer[1] = (b % 256) as u8;
+    buffer[2] = (c % 256) as u8;
+    buffer[3] = (d % 256) as u8;
+    buffer[4] = (e % 256) as u8;
+    buffer[5] = (f % 256) as u8;
+    buffer[6] = (g % 256) as u8;
+    buffer[7] = (h % 256) as u8;
+}
+
+// Fills the buffer from byte `offset` of the doubleword on; eight bytes need no loop.
+pub(crate) fn copy_out(doubleword: u64, offset: usize, buffer: &mut [u8])
+    requires { ⌜ offset + length (now buffer) ≤ 8 ⌝ }
+    ensures { λ _. ⌜ now (buffer .exit) ≡ take (length (now (buffer .entry))) (drop offset (bytesOfNumber doubleword)) ⌝ }
+{
+    if buffer.len() == 8 {
+        copy_all(doubleword, buffer);
+        return;
+    }
     let mut i: usize = 0;
     while i < buffer.len() {
-        buffer[i] = doubleword[offset + i];
+        buffer[i] = byte(doubleword, offset + i);
         i += 1;
     }
 }
 
-// The doubleword with the lent bytes put in from byte `offset` on.
-pub(crate) fn merged(doubleword: [u8; 8], offset: usize, bytes: &[u8]) -> [u8; 8]
+fn wide(x: u8) -> u64
+    ensures { λ r. ⌜ r ≡ x ⌝ }
+{
+    x as u64
+}
+
+// The doubleword with byte k replaced: the bits in which the new byte differs from the old one are inverted.
+fn with_byte(doubleword: u64, k: usize, b: u8) -> u64
+    requires { ⌜ k < 8 ⌝ }
+    ensures { λ x. ⌜ bytesOfNumber x ≡ set (bytesOfNumber doubleword) k b ⌝ }
+{
+    doubleword ^ ((doubleword >> (8 * k)) % 256 ^ wide(b)) << (8 * k)
+}
+
+// MEM-5: the doubleword with the lent bytes in place of its own, from byte `offset` on.
+pub(crate) fn merged(doubleword: u64, offset: usize, bytes: &[u8]) -> u64
     requires { ⌜ offset + length (now bytes) ≤ 8 ⌝ }
-    ensures { λ x. ⌜ x ≡ merge offset (now (bytes .entry)) doubleword ⌝ }
+    ensures { λ x. ⌜ bytesOfNumber x ≡ merge offset (now (bytes .entry)) (bytesOfNumber doubleword) ⌝ }
 {
     let mut x = doubleword;
     let mut i: usize = 0;
     while i < bytes.len() {
-        x[offset + i] = bytes[i];
+        x = with_byte(x, offset + i, bytes[i]);
         i += 1;
     }
     x

@@ -1,2 +1,2 @@
-pub mod Answers
-pub mod Exports
+pub mod Results
+pub mod MemoryResults

@@ -1,33 +1,37 @@
-// The library for emulators: each call as a C function over lent bytes. An answer is a number, so that C needs no type of ours.
+// The library for emulators: each call as a C function over lent bytes and numbers. A call returns 0 if it is accepted, and its refusal if it is
+// not; what an accepted call gives is put in its last parameter. include/mpc106.h declares these functions and, over them, the calls that C
+// programs use.
 ghost use mathlib.Core.Path.{_≡_};
 ghost use mathlib.Core.List.{[]};
-ghost use Rattle.registers.specs.Record.{fresh};
+ghost use Rattle.refusals.specs.Paper.{_gives_};
+ghost use Rattle.registers.specs.Record.{fresh, recordOf};
 ghost use Rattle.banks.specs.Setup.{setupOf};
-ghost use Rattle.banks.specs.Judge.{judged};
-ghost use Rattle.banks.specs.Map.{mapped};
+ghost use Rattle.banks.specs.Judge.{judged, notReady};
+ghost use Rattle.banks.specs.Map.{mapped, cellCount};
 ghost use Rattle.banks.specs.WayBack.{back};
-ghost use Rattle.banks.specs.Alike.{compared};
+ghost use Rattle.alike.specs.Alike.{compared};
 ghost use Rattle.register_calls.specs.Calls.{readAt, writeAt};
 ghost use Rattle.ecc.specs.Columns.{columns};
-ghost use Rattle.memory.specs.Calls.{readCall, writeCall, flipCall, scrubCall};
-ghost use Rattle.mpc106.specs.Answers.{numbered, outcomeOf, acceptedCode, byteCode, alikeCode};
-ghost use Rattle.mpc106.specs.Exports.{held, settled, placed, addressed, leaving, left};
+ghost use Rattle.calls.specs.State.{state};
+ghost use Rattle.machine.specs.Calls.{readCall, writeCall, flipCall, scrubCall};
+ghost use Rattle.mpc106.specs.Results.{resultOfVerdict, returned, single, truth, placeNumbers, writeResult};
+ghost use Rattle.mpc106.specs.MemoryResults.{memoryResult, resultOfCall, flipResult};
 
-mod answers;
+mod results;
 
-use answers::ACCEPTED;
-use answers::NO_BANK;
+use alike::Comparison;
+use banks::CellCount;
 use banks::Column;
-use banks::Comparison;
 use banks::Mapping;
 use banks::Origin;
 use banks::Row;
-use register_calls::Reading;
+use refusals::Refusal;
+use register_calls::RegisterRead;
 use registers::Registers;
 
 #[no_mangle]
-pub extern "C" fn mpc106_fresh(registers: &mut [u8; 256])
-    ensures { λ _. ⌜ now (registers .exit) ≡ fresh .bytes ⌝ }
+pub extern "C" fn mpc106_raw_fresh(registers: &mut [u8; 256])
+    ensures { λ _. ⌜ recordOf (now (registers .exit)) ≡ fresh ⌝ }
 {
     let r = Registers::fresh();
     let bytes = r.bytes;
@@ -35,57 +39,85 @@ pub extern "C" fn mpc106_fresh(registers: &mut [u8; 256])
 }
 
 #[no_mangle]
-pub extern "C" fn mpc106_judge(registers: &[u8; 256]) -> u32
-    ensures { λ n. ⌜ n ≡ numbered acceptedCode (outcomeOf (judged (setupOf (held (now (registers .entry)))))) ⌝ }
+pub extern "C" fn mpc106_raw_judge(registers: &[u8; 256]) -> u32
+    ensures { λ n. ⌜ n ≡ resultOfVerdict (judged (setupOf (recordOf (now (registers .entry))))) ⌝ }
 {
-    answers::of_verdict(banks::judge(Registers { bytes: *registers }))
+    results::of_verdict(banks::judge(Registers { bytes: *registers }))
 }
 
 #[no_mangle]
-pub extern "C" fn mpc106_register_read(registers: &[u8; 256], offset: u8) -> u32
-    ensures { λ n. ⌜ n ≡ numbered byteCode (readAt (held (now (registers .entry))) offset) ⌝ }
+pub extern "C" fn mpc106_raw_cell_count(registers: &[u8; 256], count: &mut [u32; 1]) -> u32
+    ensures { λ n. ⌜ (n, now (count .exit)) ≡ returned single (notReady (setupOf (recordOf (now (registers .entry)))) gives cellCount (setupOf (recordOf (now (registers .entry))))) (now (count .entry)) ⌝ }
 {
-    let reading = register_calls::read(Registers { bytes: *registers }, offset);
-    match reading {
-        Reading::Refused(x) => answers::of_refusal(x),
-        Reading::Value(v) => ACCEPTED + v as u32,
-    }
-}
-
-#[no_mangle]
-pub extern "C" fn mpc106_register_write(registers: &mut [u8; 256], offset: u8, value: u8) -> u32
-    ensures { λ n. ⌜ (n, now (registers .exit)) ≡ settled (writeAt (held (now (registers .entry))) offset value) ⌝ }
-{
-    answers::of_verdict(register_calls::set(registers, offset, value))
-}
-
-#[no_mangle]
-pub extern "C" fn mpc106_map(registers: &[u8; 256], address: u32, place: &mut [u32; 4]) -> u32
-    ensures { λ n. ⌜ (n, now (place .exit)) ≡ placed (mapped (setupOf (held (now (registers .entry)))) address) (now (place .entry)) ⌝ }
-{
-    let mapping = banks::map(Registers { bytes: *registers }, address);
-    match mapping {
-        Mapping::Refused(x) => answers::of_refusal(x),
-        Mapping::NoBank => NO_BANK,
-        Mapping::At(p) => {
-            let bank = p.bank as u32;
-            let row = p.row;
-            let column = p.column;
-            *place = [bank, row.0, column.0, p.cell];
-            ACCEPTED
+    let cells = banks::cell_count(Registers { bytes: *registers });
+    match cells {
+        CellCount::NotReady => results::of_refusal(Refusal::NotReady),
+        CellCount::Cells(k) => {
+            *count = [k];
+            0
         }
     }
 }
 
 #[no_mangle]
-pub extern "C" fn mpc106_way_back(
+pub extern "C" fn mpc106_raw_register_read(
     registers: &[u8; 256],
-    bank: u8,
+    offset: u32,
+    value: &mut [u8; 1],
+) -> u32
+    ensures { λ n. ⌜ (n, now (value .exit)) ≡ returned single (readAt (recordOf (now (registers .entry))) offset) (now (value .entry)) ⌝ }
+{
+    let given = register_calls::read(Registers { bytes: *registers }, offset);
+    match given {
+        RegisterRead::Refused(x) => results::of_refusal(x),
+        RegisterRead::Value(v) => {
+            *value = [v];
+            0
+        }
+    }
+}
+
+#[no_mangle]
+pub extern "C" fn mpc106_raw_register_write(
+    registers: &mut [u8; 256],
+    offset: u32,
+    value: u8,
+) -> u32
+    ensures { λ n. ⌜ (n, recordOf (now (registers .exit))) ≡ writeResult (writeAt (recordOf (now (registers .entry))) offset value) ⌝ }
+{
+    results::of_verdict(register_calls::write_in_place(registers, offset, value))
+}
+
+#[no_mangle]
+pub extern "C" fn mpc106_raw_map(registers: &[u8; 256], address: u32, place: &mut [u32; 5]) -> u32
+    ensures { λ n. ⌜ (n, now (place .exit)) ≡ returned placeNumbers (mapped (setupOf (recordOf (now (registers .entry)))) address) (now (place .entry)) ⌝ }
+{
+    let mapping = banks::map(Registers { bytes: *registers }, address);
+    match mapping {
+        Mapping::Refused(x) => results::of_refusal(x),
+        Mapping::NoBank => {
+            *place = [0u32; 5];
+            0
+        }
+        Mapping::At(p) => {
+            let bank = p.bank as u32;
+            let row = p.row;
+            let column = p.column;
+            *place = [1, bank, row.0, column.0, p.cell];
+            0
+        }
+    }
+}
+
+#[no_mangle]
+pub extern "C" fn mpc106_raw_way_back(
+    registers: &[u8; 256],
+    bank: u32,
     row: u32,
     column: u32,
     address: &mut [u32; 1],
 ) -> u32
-    ensures { λ n. ⌜ (n, now (address .exit)) ≡ addressed (back (setupOf (held (now (registers .entry)))) bank (record { 0 = row }) (record { 0 = column })) (now (address .entry)) ⌝ }
+    ensures { λ n. ⌜ (n, now (address .exit)) ≡ returned single (back (setupOf (recordOf (now (registers .entry)))) bank (record { 0 = row }) (record { 0 = column })) (now (address .entry)) ⌝ }
 {
     let origin = banks::way_back(
         Registers { bytes: *registers },
@@ -94,73 +126,85 @@ pub extern "C" fn mpc106_way_back(
         Column(column),
     );
     match origin {
-        Origin::Refused(x) => answers::of_refusal(x),
+        Origin::Refused(x) => results::of_refusal(x),
         Origin::Address(a) => {
             *address = [a];
-            ACCEPTED
+            0
         }
     }
 }
 
 #[no_mangle]
-pub extern "C" fn mpc106_alike(first: &[u8; 256], second: &[u8; 256]) -> u32
-    ensures { λ n. ⌜ n ≡ numbered alikeCode (compared (setupOf (held (now (first .entry)))) (setupOf (held (now (second .entry))))) ⌝ }
+pub extern "C" fn mpc106_raw_alike(
+    first: &[u8; 256],
+    second: &[u8; 256],
+    alike: &mut [u32; 1],
+) -> u32
+    ensures { λ n. ⌜ (n, now (alike .exit)) ≡ returned truth (compared (setupOf (recordOf (now (first .entry)))) (setupOf (recordOf (now (second .entry))))) (now (alike .entry)) ⌝ }
 {
-    let comparison = banks::compare(Registers { bytes: *first }, Registers { bytes: *second });
+    let comparison = alike::compare(Registers { bytes: *first }, Registers { bytes: *second });
     match comparison {
-        Comparison::Refused(x) => answers::of_refusal(x),
-        Comparison::Alike => ACCEPTED + 1,
-        Comparison::Different => ACCEPTED,
+        Comparison::Refused(x) => results::of_refusal(x),
+        Comparison::Alike => {
+            *alike = [1];
+            0
+        }
+        Comparison::Different => {
+            *alike = [0];
+            0
+        }
     }
 }
 
 #[no_mangle]
-pub extern "C" fn mpc106_read(
+pub extern "C" fn mpc106_raw_read(
     registers: &mut [u8; 256],
     cells: &[u8],
     address: u32,
     buffer: &mut [u8],
+    answer: &mut [u32; 5],
 ) -> u32
-    ensures { λ n. ⌜ leaving n (now (registers .exit)) (now (cells .entry)) (now (buffer .exit)) ≡ left (readCall columns (held (now (registers .entry))) (now (cells .entry)) address (now (buffer .entry))) ⌝ }
+    ensures { λ n. ⌜ memoryResult n (state (recordOf (now (registers .exit))) (now (cells .entry))) (now (buffer .exit)) (now (answer .exit)) ≡ resultOfCall (readCall columns (state (recordOf (now (registers .entry))) (now (cells .entry))) address (now (buffer .entry))) (now (answer .entry)) ⌝ }
 {
-    let answer = memory::answer_read(Registers { bytes: *registers }, cells, address, buffer);
-    memory::settle(registers, answer, address);
-    answers::of_answer(answer)
+    let given = memory::read_in_place(registers, cells, address, buffer);
+    results::give_answer(given, answer)
 }
 
 #[no_mangle]
-pub extern "C" fn mpc106_write(
+pub extern "C" fn mpc106_raw_write(
     registers: &mut [u8; 256],
     cells: &mut [u8],
     address: u32,
     bytes: &[u8],
+    answer: &mut [u32; 5],
 ) -> u32
-    ensures { λ n. ⌜ leaving n (now (registers .exit)) (now (cells .exit)) [] ≡ left (writeCall columns (held (now (registers .entry))) (now (cells .entry)) address (now (bytes .entry))) ⌝ }
+    ensures { λ n. ⌜ memoryResult n (state (recordOf (now (registers .exit))) (now (cells .exit))) [] (now (answer .exit)) ≡ resultOfCall (writeCall columns (state (recordOf (now (registers .entry))) (now (cells .entry))) address (now (bytes .entry))) (now (answer .entry)) ⌝ }
 {
-    let answer = memory::answer_write(Registers { bytes: *registers }, cells, address, bytes);
-    memory::settle(registers, answer, address);
-    answers::of_answer(answer)
+    let given = memory::write_in_place(registers, cells, address, bytes);
+    results::give_answer(given, answer)
 }
 
 #[no_mangle]
-pub extern "C" fn mpc106_flip(
+pub extern "C" fn mpc106_raw_flip(
+    registers: &[u8; 256],
+    cells: &mut [u8],
+    address: u32,
+    bit: u32,
+) -> u32
+    ensures { λ n. ⌜ (n, state (recordOf (now (registers .entry))) (now (cells .exit))) ≡ flipResult (flipCall columns (state (recordOf (now (registers .entry))) (now (cells .entry))) address bit) ⌝ }
+{
+    results::of_answer(memory::flip_in_place(registers, cells, address, bit))
+}
+
+#[no_mangle]
+pub extern "C" fn mpc106_raw_scrub(
     registers: &mut [u8; 256],
     cells: &mut [u8],
     address: u32,
-    bit: u8,
+    answer: &mut [u32; 5],
 ) -> u32
-    ensures { λ n. ⌜ leaving n (now (registers .exit)) (now (cells .exit)) [] ≡ left (flipCall columns (held (now (registers .entry))) (now (cells .entry)) address bit) ⌝ }
+    ensures { λ n. ⌜ memoryResult n (state (recordOf (now (registers .exit))) (now (cells .exit))) [] (now (answer .exit)) ≡ resultOfCall (scrubCall columns (state (recordOf (now (registers .entry))) (now (cells .entry))) address) (now (answer .entry)) ⌝ }
 {
-    let answer = memory::answer_flip(Registers { bytes: *registers }, cells, address, bit);
-    memory::settle(registers, answer, address);
-    answers::of_answer(answer)
-}
-
-#[no_mangle]
-pub extern "C" fn mpc106_scrub(registers: &mut [u8; 256], cells: &mut [u8], address: u32) -> u32
-    ensures { λ n. ⌜ leaving n (now (registers .exit)) (now (cells .exit)) [] ≡ left (scrubCall columns (held (now (registers .entry))) (now (cells .entry)) address) ⌝ }
-{
-    let answer = memory::answer_scrub(Registers { bytes: *registers }, cells, address);
-    memory::settle(registers, answer, address);
-    answers::of_answer(answer)
+    let given = memory::scrub_in_place(registers, cells, address);
+    results::give_answer(given, answer)
 }

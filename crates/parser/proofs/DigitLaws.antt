@@ -1,5 +1,4 @@
 -- Laws of digits: two at a time, eight of an address, one or two of a decimal number.
--- Assumes nothing.
 use mathlib.Core.Path.{_≡_, refl, sym, ap, _∙_}
 use mathlib.Core.Bool.{Bool, true, false, cond, _&&_}
 use mathlib.Core.List.{List, [], _∷_}
@@ -12,7 +11,7 @@ use lib.Seq.{take-all}
 use borrow.Author.Tests.{lt-ltb, le-ltb, ltb-true, leb-true, eq-eqb, ne-eqb}
 use Rattle.basics.proofs.Bools.{and-left, and-right}
 use Rattle.basics.proofs.RangeLaws.{byCases}
-use Rattle.ecc.proofs.Lists.{listFrom, from-take}
+use Rattle.basics.proofs.ListLaws.{listFrom, from-take}
 use Rattle.parser.specs.Digits.{onSome, below, decimalDigit, hexDigit, hexFrom, hexField, decimalField}
 
 pub below-some : (k r : ℕ) → r < k → below k r ≡ some r

@@ -1,5 +1,4 @@
--- The fields of a line by their places: commas part them.
--- Assumes nothing.
+-- The fields of a line by their places; commas separate them.
 use mathlib.Core.Path.{_≡_, refl, sym, ap, subst, _∙_}
 use mathlib.Core.Bool.{Bool, true, false, cond, _&&_, _||_}
 use mathlib.Core.List.{List, [], _∷_}
@@ -12,9 +11,9 @@ use lib.Seq.{getD-drop, drop-drop}
 use borrow.Author.Tests.{lt-ltb, eq-eqb, ne-eqb}
 use Rattle.basics.proofs.RangeLaws.{byCases}
 use Rattle.basics.proofs.Bools.{or-left, or-right}
-use Rattle.memory.specs.Access.{Call}
+use Rattle.calls.specs.Calls.{Call}
 use Rattle.parser.specs.Digits.{onSome, hexDigit, hexFrom, hexField}
-use Rattle.parser.specs.Format.{onto, fields, one, two}
+use Rattle.parser.specs.Format.{prependByte, fields, oneField, twoFields}
 use Rattle.parser.proofs.PlainLaws.{parted, Plain, onSome-none, comma-digit}
 
 fields-cons : (x : List ℕ) → (f : List ℕ) × (fs : List (List ℕ)) × (fields x ≡ f ∷ fs)
@@ -22,7 +21,7 @@ unfolding fields
 fields-cons [] = ([], [], refl)
 fields-cons (b ∷ bs) = go (eqb b 0x2C) (fields bs)
   where
-    go : (t : Bool) (l : List (List ℕ)) → (f : List ℕ) × (fs : List (List ℕ)) × (cond t ([] ∷ l) (onto b l) ≡ f ∷ fs)
+    go : (t : Bool) (l : List (List ℕ)) → (f : List ℕ) × (fs : List (List ℕ)) × (cond t ([] ∷ l) (prependByte b l) ≡ f ∷ fs)
     go true l = ([], l, refl)
     go false [] = (b ∷ [], [], refl)
     go false (f ∷ fs) = (b ∷ f, fs, refl)
@@ -41,16 +40,16 @@ several [] e = let z : _≡_ {A = Bool} false true = e in absurd (subst T (sym e
 several (b ∷ bs) e = go (eqb b 0x2C) refl e (fields-cons bs) (several bs)
   where
     Shown : Bool → Type 0
-    Shown t = (f : List ℕ) × (g : List ℕ) × (fs : List (List ℕ)) × (cond t ([] ∷ fields bs) (onto b (fields bs)) ≡ f ∷ g ∷ fs)
+    Shown t = (f : List ℕ) × (g : List ℕ) × (fs : List (List ℕ)) × (cond t ([] ∷ fields bs) (prependByte b (fields bs)) ≡ f ∷ g ∷ fs)
 
     go : (t : Bool) → eqb b 0x2C ≡ t → (t || parted bs) ≡ true → ((f : List ℕ) × (fs : List (List ℕ)) × (fields bs ≡ f ∷ fs))
         → (parted bs ≡ true → (f : List ℕ) × (g : List ℕ) × (fs : List (List ℕ)) × (fields bs ≡ f ∷ g ∷ fs))
         → Shown t
     go true u h (f, fs, w) later = ([], f, fs, ap (λ (l : List (List ℕ)). [] ∷ l) w)
-    go false u h some-field later = let l = later h in (b ∷ l .0, l .1, l .2, ap (onto b) (l .3))
+    go false u h some-field later = let l = later h in (b ∷ l .0, l .1, l .2, ap (prependByte b) (l .3))
 
-pub one-field : {A : Type 0} (f : List ℕ → Option A) (k : A → Call) → Plain f → (x : List ℕ) → one f k (fields x) ≡ onSome (f x) (λ a. some (k a))
-unfolding one
+pub one-field : {A : Type 0} (f : List ℕ → Option A) (k : A → Call) → Plain f → (x : List ℕ) → oneField f k (fields x) ≡ onSome (f x) (λ a. some (k a))
+unfolding oneField
 one-field f k plain x =
     byCases (parted x) (λ t. let l = several x t in rw (l .3, plain x t)) (λ t. rw (alone x t))
 
@@ -64,29 +63,29 @@ either-none true = refl
 either-none false = refl
 
 module _ {B : Type 0} (g : List ℕ → Option B) (k : ℕ → B → Call) (plain : Plain g) where
-  two-first : (f : List ℕ → Option ℕ) (y : List ℕ) (v : ℕ) → f y ≡ some v → (l : List (List ℕ)) → two f g k (y ∷ l) ≡ one g (k v) l
-  unfolding two one
+  two-first : (f : List ℕ → Option ℕ) (y : List ℕ) (v : ℕ) → f y ≡ some v → (l : List (List ℕ)) → twoFields f g k (y ∷ l) ≡ oneField g (k v) l
+  unfolding twoFields oneField
   two-first f y v e [] = refl
   two-first f y v e (z ∷ []) = rw e
   two-first f y v e (z ∷ w ∷ l) = refl
 
-  two-none : (f : List ℕ → Option ℕ) (y : List ℕ) → f y ≡ none → (l : List (List ℕ)) → two f g k (y ∷ l) ≡ none
-  unfolding two
+  two-none : (f : List ℕ → Option ℕ) (y : List ℕ) → f y ≡ none → (l : List (List ℕ)) → twoFields f g k (y ∷ l) ≡ none
+  unfolding twoFields
   two-none f y e [] = refl
   two-none f y e (z ∷ []) = rw e
   two-none f y e (z ∷ w ∷ l) = refl
 
-  two-onto : (v m b : ℕ) (l : List (List ℕ)) → two (fieldFrom v (suc m)) g k (onto b l) ≡ onSome (hexDigit b) (λ d. two (fieldFrom (16 * v + d) m) g k l)
-  unfolding two hexFrom
-  two-onto v m b [] = sym (onSome-none (hexDigit b))
-  two-onto v m b (f ∷ []) = sym (onSome-none (hexDigit b))
-  two-onto v m b (f ∷ h ∷ []) = rw (eqb·suc-suc (length f) m) (go (hexDigit b) (eqb (length f) m))
+  two-prepended : (v m b : ℕ) (l : List (List ℕ)) → twoFields (fieldFrom v (suc m)) g k (prependByte b l) ≡ onSome (hexDigit b) (λ d. twoFields (fieldFrom (16 * v + d) m) g k l)
+  unfolding twoFields hexFrom
+  two-prepended v m b [] = sym (onSome-none (hexDigit b))
+  two-prepended v m b (f ∷ []) = sym (onSome-none (hexDigit b))
+  two-prepended v m b (f ∷ h ∷ []) = rw (eqb·suc-suc (length f) m) (go (hexDigit b) (eqb (length f) m))
     where
       go : (o : Option ℕ) (t : Bool) → onSome (cond t (onSome o (λ d. hexFrom (16 * v + d) f)) none) (λ a. onSome (g h) (λ c. some (k a c))) ≡ onSome o (λ d. onSome (cond t (hexFrom (16 * v + d) f) none) (λ a. onSome (g h) (λ c. some (k a c))))
       go none true = refl
       go none false = refl
       go (some d) t = refl
-  two-onto v m b (f ∷ h ∷ i ∷ l) = sym (onSome-none (hexDigit b))
+  two-prepended v m b (f ∷ h ∷ i ∷ l) = sym (onSome-none (hexDigit b))
 
   abbrev Then : ℕ → ℕ → List ℕ → Option Call
   Then v n x = onSome (hexFrom v (take n x)) (λ a. onSome (g (drop (suc n) x)) (λ b. some (k a b)))
@@ -94,27 +93,27 @@ module _ {B : Type 0} (g : List ℕ → Option B) (k : ℕ → B → Call) (plai
   first-nil : (v m : ℕ) → fieldFrom v (suc m) [] ≡ none
   first-nil v m = rw (eqb·zero-suc m)
 
-  first-onto : (v b : ℕ) (l : List (List ℕ)) → two (fieldFrom v 0) g k (onto b l) ≡ none
-  first-onto v b [] = two-none (fieldFrom v 0) (b ∷ []) refl []
-  first-onto v b (f ∷ l) = two-none (fieldFrom v 0) (b ∷ f) (rw (eqb·suc-zero (length f))) l
+  first-prepended : (v b : ℕ) (l : List (List ℕ)) → twoFields (fieldFrom v 0) g k (prependByte b l) ≡ none
+  first-prepended v b [] = two-none (fieldFrom v 0) (b ∷ []) refl []
+  first-prepended v b (f ∷ l) = two-none (fieldFrom v 0) (b ∷ f) (rw (eqb·suc-zero (length f))) l
 
-  two-fields : (x : List ℕ) (v n : ℕ) → two (fieldFrom v n) g k (fields x) ≡ cond (ltb n (length x) && eqb (getD x n 0) 0x2C) (Then v n x) none
-  unfolding fields two hexFrom
+  two-fields : (x : List ℕ) (v n : ℕ) → twoFields (fieldFrom v n) g k (fields x) ≡ cond (ltb n (length x) && eqb (getD x n 0) 0x2C) (Then v n x) none
+  unfolding fields twoFields hexFrom
   two-fields [] v n = rw (leb·suc-zero n)
   two-fields (b ∷ bs) v zero =
       let more : ltb 0 (length (b ∷ bs)) ≡ true = lt-ltb 0 (suc (length bs)) (omega arith) in
       byCases (eqb b 0x2C) (λ t. rw (t, more) (two-first (fieldFrom v 0) [] v refl (fields bs) ∙ one-field g (k v) plain bs))
-      (λ t. rw (t, more) (first-onto v b (fields bs)))
+      (λ t. rw (t, more) (first-prepended v b (fields bs)))
   two-fields (b ∷ bs) v (suc m) =
       byCases (eqb b 0x2C)
       (λ t. rw (t, comma-digit b t) (two-none (fieldFrom v (suc m)) [] (first-nil v m) (fields bs) ∙ sym (either-none (ltb (suc m) (suc (length bs)) && eqb (getD bs m 0) 0x2C))))
-      (λ t. rw (t, two-onto v m b (fields bs), leb·suc-suc (suc m) (length bs)) (go (hexDigit b) (λ d. two-fields bs (16 * v + d) m)))
+      (λ t. rw (t, two-prepended v m b (fields bs), leb·suc-suc (suc m) (length bs)) (go (hexDigit b) (λ d. two-fields bs (16 * v + d) m)))
     where
       passes : Bool
       passes = ltb m (length bs) && eqb (getD bs m 0) 0x2C
 
-      go : (o : Option ℕ) → ((d : ℕ) → two (fieldFrom (16 * v + d) m) g k (fields bs) ≡ cond passes (Then (16 * v + d) m bs) none)
-          → onSome o (λ d. two (fieldFrom (16 * v + d) m) g k (fields bs))
+      go : (o : Option ℕ) → ((d : ℕ) → twoFields (fieldFrom (16 * v + d) m) g k (fields bs) ≡ cond passes (Then (16 * v + d) m bs) none)
+          → onSome o (λ d. twoFields (fieldFrom (16 * v + d) m) g k (fields bs))
           ≡ cond passes (onSome (onSome o (λ d. hexFrom (16 * v + d) (take m bs))) (λ a. onSome (g (drop (suc m) bs)) (λ c. some (k a c)))) none
       go none later = sym (either-none passes)
       go (some d) later = later d
@@ -124,7 +123,7 @@ module _ {B : Type 0} (g : List ℕ → Option B) (k : ℕ → B → Call) (plai
     abbrev At : Option Call
     At = onSome (hexFrom 0 (take n (drop 2 line))) (λ a. onSome (g (drop (3 + n) line)) (λ b. some (k a b)))
 
-    at-places : two (hexField n) g k (fields (drop 2 line)) ≡ cond (ltb n (length (drop 2 line)) && eqb (getD line (2 + n) 0) 0x2C) At none
+    at-places : twoFields (hexField n) g k (fields (drop 2 line)) ≡ cond (ltb n (length (drop 2 line)) && eqb (getD line (2 + n) 0) 0x2C) At none
     unfolding hexField
     at-places =
         two-fields (drop 2 line) 0 n
@@ -133,19 +132,19 @@ module _ {B : Type 0} (g : List ℕ → Option B) (k : ℕ → B → Call) (plai
         three : (n : ℕ) → 3 + n ≡ 2 + suc n
         three n = omega arith
 
-    pub two-is : 2 + n < length line → getD line (2 + n) 0 ≡ 0x2C → two (hexField n) g k (fields (drop 2 line)) ≡ At
+    pub two-is : 2 + n < length line → getD line (2 + n) 0 ≡ 0x2C → twoFields (hexField n) g k (fields (drop 2 line)) ≡ At
     two-is h e =
         let l : n < length (drop 2 line) = simp length-drop (omega arith) in
         at-places ∙ rw (lt-ltb n (length (drop 2 line)) l, eq-eqb (getD line (2 + n) 0) 0x2C e)
 
-    pub two-unparted : (getD line (2 + n) 0 ≡ 0x2C → ⊥) → two (hexField n) g k (fields (drop 2 line)) ≡ none
+    pub two-unparted : (getD line (2 + n) 0 ≡ 0x2C → ⊥) → twoFields (hexField n) g k (fields (drop 2 line)) ≡ none
     two-unparted e = at-places ∙ rw (ne-eqb (getD line (2 + n) 0) 0x2C e) (go (ltb n (length (drop 2 line))))
       where
         go : (t : Bool) → cond (t && false) At none ≡ none
         go true = refl
         go false = refl
 
-    pub two-lacking : g (drop (3 + n) line) ≡ none → two (hexField n) g k (fields (drop 2 line)) ≡ none
+    pub two-lacking : g (drop (3 + n) line) ≡ none → twoFields (hexField n) g k (fields (drop 2 line)) ≡ none
     two-lacking e =
         at-places
         ∙ rw (e, onSome-none (hexFrom 0 (take n (drop 2 line)))) (either-none (ltb n (length (drop 2 line)) && eqb (getD line (2 + n) 0) 0x2C))

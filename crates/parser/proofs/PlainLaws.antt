@@ -1,5 +1,4 @@
 -- No digit is a comma: a field with a comma in it has no value.
--- Assumes nothing.
 use mathlib.Core.Path.{_≡_, refl}
 use mathlib.Core.Bool.{Bool, true, false, cond, _&&_, _||_}
 use mathlib.Core.List.{List, [], _∷_}
@@ -16,7 +15,7 @@ abbrev pub parted : List ℕ → Bool
 parted [] = false
 parted (b ∷ bs) = eqb b 0x2C || parted bs
 
--- a field's reading that takes no comma
+-- a way to read a field that accepts no comma
 abbrev pub Plain : {A : Type 0} → (List ℕ → Option A) → Type 0
 Plain f = (x : List ℕ) → parted x ≡ true → f x ≡ none
 

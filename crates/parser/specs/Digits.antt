@@ -1,5 +1,4 @@
--- "The line program": digits read. A field that is not as the format asks has no value. Sentences in quotes are document 01's.
--- Assumes nothing.
+-- Digits read. A field that does not have the form asked for has no value.
 use Prim.Native.Nat.{ℕ, _+_, _*_, _-_, _/_, _%_}
 use mathlib.Core.Bool.{cond, _&&_}
 use mathlib.Core.List.{List, [], _∷_, _++_}
@@ -12,40 +11,40 @@ abbrev pub onSome : {A B : Type 0} → Option A → (A → Option B) → Option 
 onSome none f = none
 onSome (some x) f = f x
 
--- r where it is below k
+-- r, if it is below k
 abbrev pub below : ℕ → ℕ → Option ℕ
 below k r = cond (ltb r k) (some r) none
 
--- 0 to 9
+-- LINE-8: a digit 0 to 9
 unfoldable pub decimalDigit : ℕ → Option ℕ
 decimalDigit b = cond (leb 0x30 b && leb b 0x39) (some (b - 0x30)) none
 
--- 0 to 9, a to f: "lower case"
+-- LINE-7: a digit 0 to 9 or a to f, in lower case only
 unfoldable pub hexDigit : ℕ → Option ℕ
 hexDigit b = cond (leb 0x61 b && leb b 0x66) (some (b - 0x57)) (decimalDigit b)
 
--- the value of hexadecimal digits that follow those of v, the highest first
+-- LINE-7: the value of hexadecimal digits, highest first, that follow the digits of v
 unfoldable pub hexFrom : ℕ → List ℕ → Option ℕ
 hexFrom v [] = some v
 hexFrom v (b ∷ bs) = onSome (hexDigit b) (λ d. hexFrom (16 * v + d) bs)
 
--- n hexadecimal digits
+-- LINE-3, LINE-7: exactly n hexadecimal digits
 unfoldable pub hexField : ℕ → List ℕ → Option ℕ
 hexField n bs = cond (eqb (length bs) n) (hexFrom 0 bs) none
 
--- "one or two decimal digits without a leading zero (0 itself is allowed)"
+-- LINE-8: one or two decimal digits without a leading zero, or a single 0
 unfoldable pub decimalField : List ℕ → Option ℕ
 decimalField [] = none
 decimalField (a ∷ []) = decimalDigit a
 decimalField (a ∷ b ∷ []) = onSome (decimalDigit a) (λ d. onSome (decimalDigit b) (λ e. cond (eqb d 0) none (some (10 * d + e))))
 decimalField (a ∷ b ∷ c ∷ bs) = none
 
--- bytes of two hexadecimal digits each
+-- LINE-4: bytes of two hexadecimal digits each
 unfoldable pub hexBytes : List ℕ → Option (List ℕ)
 hexBytes [] = some []
 hexBytes (a ∷ []) = none
 hexBytes (a ∷ b ∷ bs) = onSome (hexFrom 0 (a ∷ b ∷ [])) (λ v. onSome (hexBytes bs) (λ vs. some (v ∷ vs)))
 
--- "bytes 2 to 16 (even)"
+-- LINE-4: one to eight bytes
 unfoldable pub bytesField : List ℕ → Option (List ℕ)
 bytesField bs = cond (ltb 0 (length bs) && leb (length bs) 16) (hexBytes bs) none

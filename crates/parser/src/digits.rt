@@ -1,4 +1,4 @@
-// Digits read. What is no digit has a value out of range.
+// Reads digits. A byte that is no digit gets a value out of range.
 ghost use mathlib.Core.Path.{_≡_};
 ghost use Prim.Native.Nat.{_+_, _*_, _<_, _≤_, _^_};
 ghost use mathlib.Core.List.{[], _∷_};
@@ -43,7 +43,7 @@ pub(crate) fn hex_pair(a: u8, b: u8) -> u32
     }
 }
 
-// The value of the eight hexadecimal digits from place 2 of a line on, or 2^32.
+// The value of the eight hexadecimal digits from index 2 of a line on, or 2^32.
 pub(crate) fn hex_address(line: &[u8]) -> u64
     requires { ⌜ 10 ≤ length (now line) ⌝ }
     ensures { λ r. ⌜ hexFrom 0 (take 8 (drop 2 (now (line .entry)))) ≡ below (2 ^ 32) r ⌝ }

@@ -1,4 +1,4 @@
-// The line format of the program `busline`: what a line asks for.
+// The line format of `busline`: what a line asks for (LINE-2 to LINE-8).
 ghost use mathlib.Core.Path.{_≡_};
 ghost use Prim.Native.Nat.{_≤_};
 ghost use lib.ListN.{length, drop, getD};
@@ -15,24 +15,24 @@ use memory_lines::parse_flip;
 use memory_lines::parse_read;
 use memory_lines::parse_scrub;
 use memory_lines::parse_write;
-use register_lines::parse_get;
-use register_lines::parse_set;
+use register_lines::parse_register_read;
+use register_lines::parse_register_write;
 pub use request::Parsed;
 pub use request::Request;
 use request::bare;
 use request::malformed;
 
-// By the letter, of a line whose second byte is a comma.
+// Parses by the letter a line whose second byte is a comma.
 fn by_letter(line: &[u8]) -> Parsed
     requires { ⌜ 2 ≤ length (now line) ⌝ }
     ensures { λ r. ⌜ (meant r ≡ byLetter (getD (now (line .entry)) 0 0) (fields (drop 2 (now (line .entry))))) × (r .count ≤ length (r .bytes)) ⌝ }
 {
     let letter = line[0];
     if letter == 0x63 {
-        return bare(parse_set(line));
+        return bare(parse_register_write(line));
     }
     if letter == 0x67 {
-        return bare(parse_get(line));
+        return bare(parse_register_read(line));
     }
     if letter == 0x77 {
         return parse_write(line);
@@ -49,6 +49,9 @@ fn by_letter(line: &[u8]) -> Parsed
     malformed()
 }
 
+// The most bytes that a line has, without its LF.
+pub const LONGEST_INPUT_LINE: usize = 40;
+
 // What a line asks for.
 pub fn parse(line: &[u8]) -> Parsed
     ensures { λ r. ⌜ (meant r ≡ parse (now (line .entry))) × (r .count ≤ length (r .bytes)) ⌝ }
@@ -56,7 +59,7 @@ pub fn parse(line: &[u8]) -> Parsed
     if line.len() < 2 {
         return malformed();
     }
-    if 40 < line.len() {
+    if LONGEST_INPUT_LINE < line.len() {
         return malformed();
     }
     let comma = line[1];

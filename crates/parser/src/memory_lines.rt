@@ -1,12 +1,12 @@
-// Lines that ask for a memory call, by the places of their fields.
+// Lines for memory calls. Their fields are at fixed indexes.
 ghost use mathlib.Core.Path.{_≡_};
 ghost use Prim.Native.Nat.{ℕ, _≤_};
 ghost use mathlib.Core.List.{[]};
 ghost use lib.ListN.{length, drop};
-ghost use Rattle.memory.specs.Access.{Call, memory, read, flip, write, scrub};
+ghost use Rattle.calls.specs.Calls.{Call, memory, read, flip, write, scrub};
 ghost use Rattle.parser.specs.Digits.{below, hexField, decimalField, bytesField};
-ghost use Rattle.parser.specs.Format.{fields, one, two};
-ghost use Rattle.parser.specs.Parsed.{asked, meant, aimedAt};
+ghost use Rattle.parser.specs.Format.{fields, oneField, twoFields};
+ghost use Rattle.parser.specs.Parsed.{asked, meant, withBoth};
 use crate::bytes::hex_bytes;
 use crate::digits::decimal_digit;
 use crate::digits::hex_address;
@@ -15,15 +15,15 @@ use crate::request::Request;
 use crate::request::malformed;
 
 // An address and a decimal number.
-pub enum Aimed {
+pub enum AddressAndNumber {
     Malformed,
-    At(u32, u8),
+    Both(u32, u8),
 }
 
 // `s,address`
 pub(crate) fn parse_scrub(line: &[u8]) -> Request
     requires { ⌜ 2 ≤ length (now line) ⌝ }
-    ensures { λ r. ⌜ asked r [] ≡ one (hexField 8) (λ a. memory (scrub a)) (fields (drop 2 (now (line .entry)))) ⌝ }
+    ensures { λ r. ⌜ asked r [] ≡ oneField (hexField 8) (λ a. memory (scrub a)) (fields (drop 2 (now (line .entry)))) ⌝ }
 {
     let n = line.len();
     if n != 10 {
@@ -36,7 +36,7 @@ pub(crate) fn parse_scrub(line: &[u8]) -> Request
     Request::Scrub(address as u32)
 }
 
-// The number of a line's last field, from place 11 on, or 100.
+// The number in a line's last field, from index 11 on, or 100.
 fn decimal(line: &[u8]) -> u8
     requires { ⌜ 12 ≤ length (now line) ⌝ }
     ensures { λ r. ⌜ decimalField (drop 11 (now (line .entry))) ≡ below 100 r ⌝ }
@@ -63,54 +63,54 @@ fn decimal(line: &[u8]) -> u8
 }
 
 // The address and the number of `r,address,count` and `f,address,bit`.
-fn parse_aimed(line: &[u8]) -> Aimed
+fn parse_address_and_number(line: &[u8]) -> AddressAndNumber
     requires { ⌜ 2 ≤ length (now line) ⌝ }
-    ensures { λ r. ⌜ ((k : ℕ → ℕ → Call) → aimedAt r k ≡ two (hexField 8) decimalField k (fields (drop 2 (now (line .entry))))) ⌝ }
+    ensures { λ r. ⌜ ((k : ℕ → ℕ → Call) → withBoth r k ≡ twoFields (hexField 8) decimalField k (fields (drop 2 (now (line .entry))))) ⌝ }
 {
     if line.len() < 12 {
-        return Aimed::Malformed;
+        return AddressAndNumber::Malformed;
     }
     let comma = line[10];
     if comma != 0x2c {
-        return Aimed::Malformed;
+        return AddressAndNumber::Malformed;
     }
     let address = hex_address(line);
     if 0xffffffff < address {
-        return Aimed::Malformed;
+        return AddressAndNumber::Malformed;
     }
     let number = decimal(line);
     if 99 < number {
-        return Aimed::Malformed;
+        return AddressAndNumber::Malformed;
     }
-    Aimed::At(address as u32, number)
+    AddressAndNumber::Both(address as u32, number)
 }
 
 pub(crate) fn parse_read(line: &[u8]) -> Request
     requires { ⌜ 2 ≤ length (now line) ⌝ }
-    ensures { λ r. ⌜ asked r [] ≡ two (hexField 8) decimalField (λ a n. memory (read a n)) (fields (drop 2 (now (line .entry)))) ⌝ }
+    ensures { λ r. ⌜ asked r [] ≡ twoFields (hexField 8) decimalField (λ a n. memory (read a n)) (fields (drop 2 (now (line .entry)))) ⌝ }
 {
-    let aimed = parse_aimed(line);
-    match aimed {
-        Aimed::Malformed => Request::Malformed,
-        Aimed::At(address, count) => Request::Read(address, count),
+    let both = parse_address_and_number(line);
+    match both {
+        AddressAndNumber::Malformed => Request::Malformed,
+        AddressAndNumber::Both(address, count) => Request::Read(address, count),
     }
 }
 
 pub(crate) fn parse_flip(line: &[u8]) -> Request
     requires { ⌜ 2 ≤ length (now line) ⌝ }
-    ensures { λ r. ⌜ asked r [] ≡ two (hexField 8) decimalField (λ a b. memory (flip a b)) (fields (drop 2 (now (line .entry)))) ⌝ }
+    ensures { λ r. ⌜ asked r [] ≡ twoFields (hexField 8) decimalField (λ a b. memory (flip a b)) (fields (drop 2 (now (line .entry)))) ⌝ }
 {
-    let aimed = parse_aimed(line);
-    match aimed {
-        Aimed::Malformed => Request::Malformed,
-        Aimed::At(address, bit) => Request::Flip(address, bit),
+    let both = parse_address_and_number(line);
+    match both {
+        AddressAndNumber::Malformed => Request::Malformed,
+        AddressAndNumber::Both(address, bit) => Request::Flip(address, bit),
     }
 }
 
 // `w,address,bytes`
 pub(crate) fn parse_write(line: &[u8]) -> Parsed
     requires { ⌜ 2 ≤ length (now line) ⌝ }
-    ensures { λ r. ⌜ (meant r ≡ two (hexField 8) bytesField (λ a bs. memory (write a bs)) (fields (drop 2 (now (line .entry))))) × (r .count ≤ length (r .bytes)) ⌝ }
+    ensures { λ r. ⌜ (meant r ≡ twoFields (hexField 8) bytesField (λ a bs. memory (write a bs)) (fields (drop 2 (now (line .entry))))) × (r .count ≤ length (r .bytes)) ⌝ }
 {
     let n = line.len();
     if n < 13 {

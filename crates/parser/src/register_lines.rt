@@ -1,19 +1,19 @@
-// Lines that ask for a register call, by the places of their fields.
+// Lines for register calls. Their fields are at fixed indexes.
 ghost use mathlib.Core.Path.{_≡_};
 ghost use Prim.Native.Nat.{_≤_};
 ghost use mathlib.Core.List.{[]};
 ghost use lib.ListN.{length, drop};
-ghost use Rattle.memory.specs.Access.{readRegister, writeRegister};
+ghost use Rattle.calls.specs.Calls.{readRegister, writeRegister};
 ghost use Rattle.parser.specs.Digits.{hexField};
-ghost use Rattle.parser.specs.Format.{fields, one, two};
+ghost use Rattle.parser.specs.Format.{fields, oneField, twoFields};
 ghost use Rattle.parser.specs.Parsed.{asked};
 use crate::digits::hex_pair;
 use crate::request::Request;
 
 // `c,offset,value`
-pub(crate) fn parse_set(line: &[u8]) -> Request
+pub(crate) fn parse_register_write(line: &[u8]) -> Request
     requires { ⌜ 2 ≤ length (now line) ⌝ }
-    ensures { λ r. ⌜ asked r [] ≡ two (hexField 2) (hexField 2) writeRegister (fields (drop 2 (now (line .entry)))) ⌝ }
+    ensures { λ r. ⌜ asked r [] ≡ twoFields (hexField 2) (hexField 2) writeRegister (fields (drop 2 (now (line .entry)))) ⌝ }
 {
     let n = line.len();
     if n != 7 {
@@ -31,13 +31,13 @@ pub(crate) fn parse_set(line: &[u8]) -> Request
     if 255 < value {
         return Request::Malformed;
     }
-    Request::SetRegister(offset as u8, value as u8)
+    Request::WriteRegister(offset as u8, value as u8)
 }
 
 // `g,offset`
-pub(crate) fn parse_get(line: &[u8]) -> Request
+pub(crate) fn parse_register_read(line: &[u8]) -> Request
     requires { ⌜ 2 ≤ length (now line) ⌝ }
-    ensures { λ r. ⌜ asked r [] ≡ one (hexField 2) readRegister (fields (drop 2 (now (line .entry)))) ⌝ }
+    ensures { λ r. ⌜ asked r [] ≡ oneField (hexField 2) readRegister (fields (drop 2 (now (line .entry)))) ⌝ }
 {
     let n = line.len();
     if n != 4 {
@@ -47,5 +47,5 @@ pub(crate) fn parse_get(line: &[u8]) -> Request
     if 255 < offset {
         return Request::Malformed;
     }
-    Request::GetRegister(offset as u8)
+    Request::ReadRegister(offset as u8)
 }

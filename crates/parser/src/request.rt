@@ -8,15 +8,15 @@ ghost use Rattle.parser.specs.Parsed.{asked, meant};
 
 pub enum Request {
     Malformed,
-    SetRegister(u8, u8),
-    GetRegister(u8),
+    WriteRegister(u8, u8),
+    ReadRegister(u8),
     Write(u32),
     Read(u32, u8),
     Flip(u32, u8),
     Scrub(u32),
 }
 
-// A request, with the bytes of a write: they stand beside it, since an enum cannot hold an array.
+// A request with the bytes of a write, which are next to it, since an enum cannot hold an array.
 pub struct Parsed {
     pub request: Request,
     pub bytes: [u8; 8],

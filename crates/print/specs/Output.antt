@@ -1,42 +1,41 @@
--- "The line program": what an answer prints. Sentences in quotes are document 01's.
--- Assumes nothing.
+-- What an answer prints.
 use Prim.Native.Nat.{ℕ}
-use mathlib.Core.List.{List, [], _∷_, _++_, map}
+use mathlib.Core.List.{List, [], _∷_, _++_}
 use mathlib.Core.Option.{none, some}
 use lib.ListN.{getD}
 use Rattle.refusals.specs.Paper.{Declined, Outcome, refused, given}
 use Rattle.calls.specs.declared.Kind.{Kind}
 use Rattle.calls.specs.declared.Kind.the-variants.{Clean, Corrected, Uncorrectable, Stored, NoBank, Flipped}
-use Rattle.memory.specs.Access.{Access, read, write, flip, scrub}
+use Rattle.calls.specs.Calls.{MemoryCall, read, write, flip, scrub}
 use Rattle.print.specs.Digits.{hexPair, hexPairs, decimal}
 
--- "the letter, .. the refusal in decimal (of 12 to 14 the bank is not printed)", and LF
+-- LINE-12: the letter and the number of the refusal; the bank of 12 to 14 is left out
 unfoldable pub refusedText : ℕ → ℕ → List ℕ
 refusedText l n = l ∷ 0x2C ∷ decimal n ++ 0x0A ∷ []
 
--- "the letter, 0 .., then if accepted" what follows, and LF
+-- LINE-12: the letter and 0, and what else an accepted call prints
 abbrev pub acceptedText : ℕ → List ℕ → List ℕ
 acceptedText l more = l ∷ 0x2C ∷ 0x30 ∷ more ++ 0x0A ∷ []
 
--- "A malformed line prints ?,18."
+-- LINE-11, REF-18: a malformed line
 unfoldable pub malformedText : List ℕ
 malformedText = refusedText 0x3F 18
 
--- of a register write
-unfoldable pub writtenText : Declined → List ℕ
-writtenText none = acceptedText 0x63 []
-writtenText (some n) = refusedText 0x63 (getD n 0 0)
+-- LINE-13: a register write
+unfoldable pub registerWriteText : Declined → List ℕ
+registerWriteText none = acceptedText 0x63 []
+registerWriteText (some n) = refusedText 0x63 (getD n 0 0)
 
--- of a call that gives something, by what an accepted one has to tell
+-- LINE-12: a call by its letter, with the text that follows the 0 if it was accepted
 abbrev pub outcomeText : {A : Type 0} → ℕ → (A → List ℕ) → Outcome A → List ℕ
-outcomeText l tell (refused n) = refusedText l (getD n 0 0)
-outcomeText l tell (given a) = acceptedText l (tell a)
+outcomeText l more (refused n) = refusedText l (getD n 0 0)
+outcomeText l more (given a) = acceptedText l (more a)
 
--- of a register read: "g's value"
-unfoldable pub readingText : Outcome ℕ → List ℕ
-readingText o = outcomeText 0x67 (λ v. 0x2C ∷ hexPair v) o
+-- LINE-13: a register read
+unfoldable pub registerReadText : Outcome ℕ → List ℕ
+registerReadText o = outcomeText 0x67 (λ v. 0x2C ∷ hexPair v) o
 
--- "n clean, c corrected, u uncorrectable, e no bank, p stored"; of a flip nothing is printed
+-- LINE-14: the letter of an answer. That of a flip is never printed (LINE-13)
 unfoldable pub kindLetter : Kind → ℕ
 kindLetter Clean = 0x6E
 kindLetter Corrected = 0x63
@@ -45,25 +44,29 @@ kindLetter Stored = 0x70
 kindLetter NoBank = 0x65
 kindLetter Flipped = 0x66
 
-abbrev pub letterOf : Access → ℕ
+-- LINE-4 to LINE-6: the letter of a memory call
+abbrev pub letterOf : MemoryCall → ℕ
 letterOf (read a n) = 0x72
 letterOf (write a bs) = 0x77
 letterOf (flip a b) = 0x66
 letterOf (scrub a) = 0x73
 
--- "the answer .. and r's bytes": of the kinds of a call's accesses; of these and the bytes that a read gives
+-- LINE-14: the answer of each access of a call, in order
 abbrev pub kindsText : List Kind → List ℕ
-kindsText ks = 0x2C ∷ map kindLetter ks
+kindsText [] = []
+kindsText (k ∷ ks) = 0x2C ∷ kindLetter k ∷ kindsText ks
 
-abbrev pub bytesText : List ℕ → List Kind → List ℕ
-bytesText bs ks = kindsText ks ++ 0x2C ∷ hexPairs bs
+-- LINE-14: the same, and the bytes of a read
+abbrev pub kindsAndBytesText : List ℕ → List Kind → List ℕ
+kindsAndBytesText bs ks = kindsText ks ++ 0x2C ∷ hexPairs bs
 
-unfoldable pub answerText : Access → List Kind → List ℕ → List ℕ
-answerText (read a n) ks bs = bytesText bs ks
-answerText (write a ws) ks bs = kindsText ks
-answerText (flip a b) ks bs = []
-answerText (scrub a) ks bs = kindsText ks
+-- LINE-13, LINE-14: what follows the 0 of an accepted memory call
+unfoldable pub answerText : MemoryCall → List ℕ → List Kind → List ℕ
+answerText (read a n) bs ks = kindsAndBytesText bs ks
+answerText (write a ws) bs ks = kindsText ks
+answerText (flip a b) bs ks = []
+answerText (scrub a) bs ks = kindsText ks
 
--- of a memory call
-unfoldable pub accessText : Access → Outcome (List Kind) → List ℕ → List ℕ
-accessText x o bs = outcomeText (letterOf x) (λ ks. answerText x ks bs) o
+-- LINE-12: a memory call
+unfoldable pub callText : MemoryCall → Outcome (List Kind) → List ℕ → List ℕ
+callText c o bs = outcomeText (letterOf c) (answerText c bs) o

@@ -1,40 +1,38 @@
-// What the answers of the calls print: an output line each, put at the start of the lent output. Nothing is put where the output has no
-// room for 24 bytes, the longest line: so no call asks anything of its caller.
+// What the answers of the calls print: one output line each, written to the start of the lent output. Nothing is written if the output has no
+// room for the longest line, so the functions demand nothing of their caller.
 ghost use mathlib.Core.Path.{_≡_};
-ghost use Prim.Native.Nat.{_≤_};
-ghost use mathlib.Core.Bool.{cond};
-ghost use lib.Dec.{ltb};
 ghost use lib.ListN.{take};
 ghost use Rattle.refusals.specs.Paper.{paperVerdict};
-ghost use Rattle.register_calls.specs.Calls.{paperReading};
-ghost use Rattle.print.specs.Output.{malformedText, writtenText, readingText};
-ghost use Rattle.print.specs.Printed.{put, briefText, flippedText, dataText};
+ghost use Rattle.register_calls.specs.Calls.{paperRegisterRead};
+ghost use Rattle.print.specs.Output.{malformedText, registerWriteText, registerReadText};
+ghost use Rattle.print.specs.Printed.{printInto, kindsLine, flipLine, readLine};
 
 mod digits;
 mod text;
 
-use memory::Answer;
+use calls::Answer;
 use refusals::Refusal;
 use refusals::Verdict;
-use register_calls::Reading;
+use register_calls::RegisterRead;
 
-// Of a malformed line.
+// The length of the longest output line, with its LF: that of a read of eight bytes in four parts.
+pub const LONGEST_OUTPUT_LINE: usize = 29;
+
+// The line for a malformed line.
 pub fn malformed(out: &mut [u8]) -> usize
-    ensures { λ n. ⌜ (n, now (out .exit)) ≡ put malformedText (now (out .entry)) ⌝ }
-    ensures { λ n. ⌜ n ≤ 24 ⌝ }
+    ensures { λ n. ⌜ (n, now (out .exit)) ≡ printInto malformedText (now (out .entry)) ⌝ }
 {
-    if out.len() < 24 {
+    if out.len() < LONGEST_OUTPUT_LINE {
         return 0;
     }
     text::refused(0x3f, refusals::number(Refusal::MalformedLine), out)
 }
 
-// Of a register write.
-pub fn written(verdict: Verdict, out: &mut [u8]) -> usize
-    ensures { λ n. ⌜ (n, now (out .exit)) ≡ put (writtenText (paperVerdict verdict)) (now (out .entry)) ⌝ }
-    ensures { λ n. ⌜ n ≤ 24 ⌝ }
+// The line for a register write.
+pub fn register_write(verdict: Verdict, out: &mut [u8]) -> usize
+    ensures { λ n. ⌜ (n, now (out .exit)) ≡ printInto (registerWriteText (paperVerdict verdict)) (now (out .entry)) ⌝ }
 {
-    if out.len() < 24 {
+    if out.len() < LONGEST_OUTPUT_LINE {
         return 0;
     }
     match verdict {
@@ -43,65 +41,64 @@ pub fn written(verdict: Verdict, out: &mut [u8]) -> usize
     }
 }
 
-// Of a register read.
-pub fn reading(reading: Reading, out: &mut [u8]) -> usize
-    ensures { λ n. ⌜ (n, now (out .exit)) ≡ put (readingText (paperReading reading)) (now (out .entry)) ⌝ }
-    ensures { λ n. ⌜ n ≤ 24 ⌝ }
+// The line for a register read.
+pub fn register_read(reading: RegisterRead, out: &mut [u8]) -> usize
+    ensures { λ n. ⌜ (n, now (out .exit)) ≡ printInto (registerReadText (paperRegisterRead reading)) (now (out .entry)) ⌝ }
 {
-    if out.len() < 24 {
+    if out.len() < LONGEST_OUTPUT_LINE {
         return 0;
     }
     match reading {
-        Reading::Refused(x) => text::refused(0x67, refusals::number(x), out),
-        Reading::Value(v) => text::value(v, out),
+        RegisterRead::Refused(x) => text::refused(0x67, refusals::number(x), out),
+        RegisterRead::Value(v) => text::value(v, out),
     }
 }
 
-// Of a write or a scrub.
-pub fn brief(letter: u8, answer: Answer, out: &mut [u8]) -> usize
-    ensures { λ n. ⌜ (n, now (out .exit)) ≡ put (briefText letter answer) (now (out .entry)) ⌝ }
-    ensures { λ n. ⌜ n ≤ 24 ⌝ }
+// The line for a write or a scrub, by its letter.
+pub fn kinds(letter: u8, answer: Answer, out: &mut [u8]) -> usize
+    ensures { λ n. ⌜ (n, now (out .exit)) ≡ printInto (kindsLine letter answer) (now (out .entry)) ⌝ }
 {
-    if out.len() < 24 {
+    if out.len() < LONGEST_OUTPUT_LINE {
         return 0;
     }
-    match answer {
-        Answer::Refused(x) => text::refused(letter, refusals::number(x), out),
-        Answer::Done(kind) => text::answer(letter, kind, out),
+    let verdict = answer.verdict;
+    match verdict {
+        Verdict::Refused(x) => text::refused(letter, refusals::number(x), out),
+        Verdict::Accepted => {
+            let parts = answer.parts;
+            text::kinds(letter, parts, answer.count, out)
+        }
     }
 }
 
-// Of a flip: only that it was accepted.
-pub fn flipped(answer: Answer, out: &mut [u8]) -> usize
-    ensures { λ n. ⌜ (n, now (out .exit)) ≡ put (flippedText answer) (now (out .entry)) ⌝ }
-    ensures { λ n. ⌜ n ≤ 24 ⌝ }
+// LINE-13: a flip prints no answer.
+pub fn flip(answer: Answer, out: &mut [u8]) -> usize
+    ensures { λ n. ⌜ (n, now (out .exit)) ≡ printInto (flipLine answer) (now (out .entry)) ⌝ }
 {
-    if out.len() < 24 {
+    if out.len() < LONGEST_OUTPUT_LINE {
         return 0;
     }
-    match answer {
-        Answer::Refused(x) => text::refused(0x66, refusals::number(x), out),
-        Answer::Done(_) => text::accepted(0x66, out),
+    let verdict = answer.verdict;
+    match verdict {
+        Verdict::Refused(x) => text::refused(0x66, refusals::number(x), out),
+        Verdict::Accepted => text::accepted(0x66, out),
     }
 }
 
-fn at_most_eight(count: usize) -> usize
-    ensures { λ r. ⌜ (r ≡ cond (ltb count 8) count 8) × (r ≤ 8) ⌝ }
+// The line for a read that filled the first `count` of these bytes; a count above 8 counts as 8.
+pub fn read(answer: Answer, bytes: [u8; 8], count: usize, out: &mut [u8]) -> usize
+    ensures { λ n. ⌜ (n, now (out .exit)) ≡ printInto (readLine answer (take count bytes)) (now (out .entry)) ⌝ }
 {
-    if count < 8 { count } else { 8 }
-}
-
-// Of a read that filled the first `count` of these bytes; a count above 8 is taken for 8.
-pub fn data(answer: Answer, bytes: [u8; 8], count: usize, out: &mut [u8]) -> usize
-    ensures { λ n. ⌜ (n, now (out .exit)) ≡ put (dataText answer (take count bytes)) (now (out .entry)) ⌝ }
-    ensures { λ n. ⌜ n ≤ 24 ⌝ }
-{
-    if out.len() < 24 {
+    if out.len() < LONGEST_OUTPUT_LINE {
         return 0;
     }
-    let n = at_most_eight(count);
-    match answer {
-        Answer::Refused(x) => text::refused(0x72, refusals::number(x), out),
-        Answer::Done(kind) => text::data(kind, &bytes[..n], out),
+    let n = text::least(count, 8);
+    let verdict = answer.verdict;
+    match verdict {
+        Verdict::Refused(x) => text::refused(0x72, refusals::number(x), out),
+        Verdict::Accepted => {
+            let parts = answer.parts;
+            text::kinds_and_bytes(parts, answer.count, &bytes[..n], out)
+        }
     }
 }

@@ -1,19 +1,29 @@
-// Output lines, each of one form, put at the start of an output that has room for them.
+// Output lines, one function for each form, written to the start of an output that has room for them.
 ghost use mathlib.Core.Path.{_≡_};
 ghost use Prim.Native.Nat.{_+_, _*_, _≤_};
-ghost use mathlib.Core.List.{[], _∷_, _++_};
-ghost use lib.ListN.{length, take, drop};
+ghost use mathlib.Core.Bool.{cond};
+ghost use mathlib.Core.List.{[], _∷_};
+ghost use lib.Dec.{ltb};
+ghost use lib.ListN.{length, take};
+ghost use lib.Seq.{sets};
+ghost use Rattle.calls.specs.Answers.{kindsIn};
 ghost use Rattle.print.specs.Digits.{hexPair, hexPairs};
-ghost use Rattle.print.specs.Output.{refusedText, acceptedText, kindLetter};
-ghost use Rattle.print.specs.Printed.{laid};
+ghost use Rattle.print.specs.Output.{refusedText, acceptedText, kindLetter, kindsText, kindsAndBytesText};
+ghost use Rattle.print.specs.Printed.{longestOutputLine, atStart};
 use crate::digits::high_digit;
 use crate::digits::low_digit;
 use calls::Kind;
+use calls::Part;
+
+pub(crate) fn least(a: usize, b: usize) -> usize
+    ensures { λ r. ⌜ r ≡ cond (ltb a b) a b ⌝ }
+{
+    if a < b { a } else { b }
+}
 
 pub(crate) fn refused(letter: u8, number: u8, out: &mut [u8]) -> usize
-    requires { ⌜ 24 ≤ length (now out) ⌝ }
-    ensures { λ n. ⌜ (n, now (out .exit)) ≡ laid (refusedText letter number) (now (out .entry)) ⌝ }
-    ensures { λ n. ⌜ n ≤ 24 ⌝ }
+    requires { ⌜ longestOutputLine ≤ length (now out) ⌝ }
+    ensures { λ n. ⌜ (n, now (out .exit)) ≡ atStart (refusedText letter number) (now (out .entry)) ⌝ }
 {
     out[0] = letter;
     out[1] = 0x2c;
@@ -28,11 +38,10 @@ pub(crate) fn refused(letter: u8, number: u8, out: &mut [u8]) -> usize
     5
 }
 
-// Accepted, with nothing to tell.
+// Accepted, and nothing follows.
 pub(crate) fn accepted(letter: u8, out: &mut [u8]) -> usize
-    requires { ⌜ 24 ≤ length (now out) ⌝ }
-    ensures { λ n. ⌜ (n, now (out .exit)) ≡ laid (acceptedText letter []) (now (out .entry)) ⌝ }
-    ensures { λ n. ⌜ n ≤ 24 ⌝ }
+    requires { ⌜ longestOutputLine ≤ length (now out) ⌝ }
+    ensures { λ n. ⌜ (n, now (out .exit)) ≡ atStart (acceptedText letter []) (now (out .entry)) ⌝ }
 {
     out[0] = letter;
     out[1] = 0x2c;
@@ -43,9 +52,8 @@ pub(crate) fn accepted(letter: u8, out: &mut [u8]) -> usize
 
 // A register's value.
 pub(crate) fn value(v: u8, out: &mut [u8]) -> usize
-    requires { ⌜ 24 ≤ length (now out) ⌝ }
-    ensures { λ n. ⌜ (n, now (out .exit)) ≡ laid (acceptedText 0x67 (0x2C ∷ hexPair v)) (now (out .entry)) ⌝ }
-    ensures { λ n. ⌜ n ≤ 24 ⌝ }
+    requires { ⌜ longestOutputLine ≤ length (now out) ⌝ }
+    ensures { λ n. ⌜ (n, now (out .exit)) ≡ atStart (acceptedText 0x67 (0x2C ∷ hexPair v)) (now (out .entry)) ⌝ }
 {
     out[0] = 0x67;
     out[1] = 0x2c;
@@ -70,29 +78,32 @@ fn kind_letter(kind: Kind) -> u8
     }
 }
 
-// The answer of a write or a scrub.
-pub(crate) fn answer(letter: u8, kind: Kind, out: &mut [u8]) -> usize
-    requires { ⌜ 24 ≤ length (now out) ⌝ }
-    ensures { λ n. ⌜ (n, now (out .exit)) ≡ laid (acceptedText letter (0x2C ∷ kindLetter kind ∷ [])) (now (out .entry)) ⌝ }
-    ensures { λ n. ⌜ n ≤ 24 ⌝ }
+// Writes the kinds of the first `count` parts from index 3 on, and returns the index behind them.
+fn write_kinds(parts: [Part; 4], count: usize, out: &mut [u8]) -> usize
+    requires { ⌜ longestOutputLine ≤ length (now out) ⌝ }
+    ensures { λ n. ⌜ (n ≡ 3 + length (kindsText (kindsIn (take count parts)))) × (now (out .exit) ≡ sets (now (out .entry)) 3 (kindsText (kindsIn (take count parts)))) × (n ≤ 11) ⌝ }
 {
-    out[0] = letter;
-    out[1] = 0x2c;
-    out[2] = 0x30;
-    out[3] = 0x2c;
-    out[4] = kind_letter(kind);
-    out[5] = 0x0a;
-    6
+    let n = least(count, 4);
+    let mut i: usize = 0;
+    while i < n {
+        let at = 3 + 2 * i;
+        let part = parts[i];
+        let kind = part.kind;
+        out[at] = 0x2c;
+        out[at + 1] = kind_letter(kind);
+        i += 1;
+    }
+    3 + 2 * n
 }
 
-// The two digits of each of the bytes, from place 6 on.
-fn put_pairs(bytes: &[u8], out: &mut [u8])
-    requires { ⌜ (length (now bytes) ≤ 8) × (24 ≤ length (now out)) ⌝ }
-    ensures { λ _. ⌜ (take (6 + 2 * length (now (bytes .entry))) (now (out .exit)) ≡ take 6 (now (out .entry)) ++ hexPairs (now (bytes .entry))) × (drop (6 + 2 * length (now (bytes .entry))) (now (out .exit)) ≡ drop (6 + 2 * length (now (bytes .entry))) (now (out .entry))) ⌝ }
+// Writes two digits for each byte, from an index on.
+fn write_pairs(bytes: &[u8], out: &mut [u8], from: usize)
+    requires { ⌜ from + 2 * length (now bytes) ≤ length (now out) ⌝ }
+    ensures { λ _. ⌜ now (out .exit) ≡ sets (now (out .entry)) from (hexPairs (now (bytes .entry))) ⌝ }
 {
     let mut i: usize = 0;
     while i < bytes.len() {
-        let at = 6 + 2 * i;
+        let at = from + 2 * i;
         let b = bytes[i];
         out[at] = high_digit(b);
         out[at + 1] = low_digit(b);
@@ -100,20 +111,31 @@ fn put_pairs(bytes: &[u8], out: &mut [u8])
     }
 }
 
+// The answer of a write or a scrub.
+pub(crate) fn kinds(letter: u8, parts: [Part; 4], count: usize, out: &mut [u8]) -> usize
+    requires { ⌜ longestOutputLine ≤ length (now out) ⌝ }
+    ensures { λ n. ⌜ (n, now (out .exit)) ≡ atStart (acceptedText letter (kindsText (kindsIn (take count parts)))) (now (out .entry)) ⌝ }
+{
+    out[0] = letter;
+    out[1] = 0x2c;
+    out[2] = 0x30;
+    let end = write_kinds(parts, count, out);
+    out[end] = 0x0a;
+    end + 1
+}
+
 // The answer of a read, and its bytes.
-pub(crate) fn data(kind: Kind, bytes: &[u8], out: &mut [u8]) -> usize
-    requires { ⌜ (length (now bytes) ≤ 8) × (24 ≤ length (now out)) ⌝ }
-    ensures { λ n. ⌜ (n, now (out .exit)) ≡ laid (acceptedText 0x72 (0x2C ∷ kindLetter kind ∷ 0x2C ∷ hexPairs (now (bytes .entry)))) (now (out .entry)) ⌝ }
-    ensures { λ n. ⌜ n ≤ 24 ⌝ }
+pub(crate) fn kinds_and_bytes(parts: [Part; 4], count: usize, bytes: &[u8], out: &mut [u8]) -> usize
+    requires { ⌜ (length (now bytes) ≤ 8) × (longestOutputLine ≤ length (now out)) ⌝ }
+    ensures { λ n. ⌜ (n, now (out .exit)) ≡ atStart (acceptedText 0x72 (kindsAndBytesText (now (bytes .entry)) (kindsIn (take count parts)))) (now (out .entry)) ⌝ }
 {
     out[0] = 0x72;
     out[1] = 0x2c;
     out[2] = 0x30;
-    out[3] = 0x2c;
-    out[4] = kind_letter(kind);
-    out[5] = 0x2c;
-    put_pairs(bytes, out);
-    let end = 6 + 2 * bytes.len();
+    let comma = write_kinds(parts, count, out);
+    out[comma] = 0x2c;
+    write_pairs(bytes, out, comma + 1);
+    let end = comma + 1 + 2 * bytes.len();
     out[end] = 0x0a;
     end + 1
 }

@@ -1,4 +1,4 @@
--- What document 01's table "When a call declines" returns for each refusal: its number, then the bank of 12 to 14.
+-- What each refusal returns, and chains of causes. REF-n is refusal n.
 use Prim.Native.Nat.{ℕ}
 use mathlib.Core.Bool.{Bool, true, false}
 use mathlib.Core.Option.{Option, none, some}
@@ -10,6 +10,7 @@ use Rattle.refusals.specs.declared.Refusal.the-variants.{TooLong, Overla
 use Rattle.refusals.specs.declared.Verdict.{Verdict}
 use Rattle.refusals.specs.declared.Verdict.the-variants.{Accepted, Refused}
 
+-- REF-1 to REF-18, FORM-7: the number of a refusal, and for 12 to 14 the bank
 abbrev pub paper : Refusal → List ℕ
 paper UnlistedOffset = 1 ∷ []
 paper ReadOnly = 2 ∷ []
@@ -30,25 +31,34 @@ paper RowOrColumnTooLarge = 16 ∷ []
 paper NoAddress = 17 ∷ []
 paper MalformedLine = 18 ∷ []
 
--- what a refused call returns, or nothing where the call is accepted
+-- what a refused call returns, or nothing if the call is accepted
 abbrev pub Declined : Type 0
 Declined = Option (List ℕ)
 
--- "Each is given only for its cause. Lower numbers go first": a chain of causes, of which the first that holds is given
+-- REF-101: a refusal with its cause
 abbrev pub refuse : Bool → List ℕ → Declined
 refuse true x = some x
 refuse false x = none
 
+-- REF-102: a chain of causes; the first that applies is returned, so a chain has its causes in the order of the rules
 abbrev pub _else_ : Declined → Declined → Declined
 _else_ (some x) later = some x
 _else_ none later = later
 
 infixr 20 _else_
+-- FORM-7: the verdict of a call that returns nothing else
 abbrev pub paperVerdict : Verdict → Declined
 paperVerdict Accepted = none
 paperVerdict (Refused x) = some (paper x)
 
--- a refused call's return, or what an accepted one gives
+-- what a call returns: a refusal, or what an accepted call gives
 pub data Outcome (A : Type 0) : Type 0 where
   refused : List ℕ → Outcome A
   given : A → Outcome A
+
+-- REF-101: a chain of causes, and what the call gives if none of them applies
+abbrev pub _gives_ : {A : Type 0} → Declined → A → Outcome A
+_gives_ none x = given x
+_gives_ (some n) x = refused n
+
+infixr 15 _gives_

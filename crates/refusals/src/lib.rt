@@ -1,4 +1,4 @@
-// Why a call declines: one case for each row of document 01's table "When a call declines".
+// Why a call is refused: one case for each of REF-1 to REF-18.
 ghost use mathlib.Core.Path.{_≡_};
 ghost use lib.ListN.{getD};
 ghost use Rattle.refusals.specs.Paper.{paper};
@@ -24,13 +24,13 @@ pub enum Refusal {
     MalformedLine,
 }
 
-// What a call that only accepts or declines gives.
+// What a call returns if it says no more than that it was accepted or refused.
 pub enum Verdict {
     Accepted,
     Refused(Refusal),
 }
 
-// Document 01's number of a refusal.
+// The number of a refusal: that of its rule.
 pub fn number(x: Refusal) -> u8
     ensures { λ n. ⌜ n ≡ getD (paper x) 0 0 ⌝ }
 {

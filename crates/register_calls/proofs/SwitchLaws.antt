@@ -1,4 +1,4 @@
--- What an accepted switching on leaves, and which register writes leave the set-up of the banks. Assumes nothing.
+-- What an accepted switching on leaves, and which register writes leave the set-up of the banks as it was.
 use mathlib.Core.Path.{_≡_, refl}
 use mathlib.Core.Bool.{Bool, true, false, not, cond, true≢false}
 use mathlib.Core.Option.{none, some}
@@ -11,14 +11,14 @@ use Rattle.registers.specs.declared.Registers.{Registers}
 use Rattle.banks.specs.Setup.{Setup, setupOf}
 use Rattle.banks.specs.Judge.{lowest, meetsLower, lowestMeeting, judged, ready}
 use Rattle.banks.proofs.StoreLaws.{setup-between, banks-switched}
-use Rattle.register_calls.specs.Calls.{listed, readOnly, badValue, locked, clearing, switchesOn, declined, newByte, settled, written}
+use Rattle.register_calls.specs.Calls.{listed, readOnly, badValue, locked, clearing, switchesOn, declined, newByte, recordAfter, written}
 
 -- a register write at B8 to CB, refused or not
 pub setup-written : (r : Registers) (o v : ℕ) → 0xB8 ≤ o → o ≤ 0xCB → setupOf (written r o v) ≡ setupOf r
 unfolding written
 setup-written r o v l h = go (declined r o v)
   where
-    go : (d : Declined) → setupOf (settled d r o v) ≡ setupOf r
+    go : (d : Declined) → setupOf (recordAfter d r o v) ≡ setupOf r
     go none = setup-between r o (newByte r o v) (omega arith) (omega arith)
     go (some x) = refl
 
@@ -32,7 +32,7 @@ chosen true e x h = absurd (true≢false e)
 chosen false e x h = h
 
 module _ (r : Registers) (whole : length (r .bytes) ≡ 256) (off : setupOf r .on ≡ false) (accepted : declined r 0xF2 8 ≡ none) where
-  -- 11 to 14 were looked for and not found
+  -- none of 11 to 14 was found
   judged-none : judged (setupOf r) ≡ none
   unfolding declined listed readOnly badValue locked switchesOn
   judged-none = chosen (setupOf r .on) off (judged (setupOf r)) accepted
@@ -45,7 +45,7 @@ module _ (r : Registers) (whole : length (r .bytes) ≡ 256) (off : setupOf r .o
   unfolding written newByte clearing
   banks-written = rw accepted (banks-switched r 8)
 
-  -- the record that a write of 8 to F2, accepted while memory was off, returns
+  -- the record that an accepted switching on returns (LIST-2)
   pub ready-written : ready (setupOf (written r 0xF2 8)) ≡ true
   unfolding ready
   ready-written = rw (judged-banks (setupOf (written r 0xF2 8)) (setupOf r) banks-written, judged-none, on-written)

@@ -1,22 +1,25 @@
 // Reads and writes of registers.
 ghost use mathlib.Core.Path.{_≡_};
 ghost use Rattle.refusals.specs.Paper.{paperVerdict};
-ghost use Rattle.register_calls.specs.Calls.{listed, readOnly, badValue, locked, clearing, readAt, declined, newByte, writeAt, paperReading, paperWritten};
+ghost use Rattle.register_calls.specs.Calls.{listed, readOnly, badValue, locked, clearing, readAt, declined, newByte, writeAt, paperRegisterRead, paperWritten};
+ghost use Rattle.registers.specs.Record.{recordOf};
 use refusals::Refusal;
 use refusals::Verdict;
 use registers::Registers;
 
-pub enum Reading {
+// What a register read returns.
+pub enum RegisterRead {
     Refused(Refusal),
     Value(u8),
 }
 
+// What a register write returns: the record after it, and whether it was accepted.
 pub struct Written {
     pub registers: Registers,
     pub verdict: Verdict,
 }
 
-fn is_listed(o: u8) -> bool
+fn is_listed(o: u32) -> bool
     ensures { λ r. ⌜ r ≡ listed o ⌝ }
 {
     (0x80 <= o) & (o <= 0xa0)
@@ -52,22 +55,23 @@ fn is_clearing(o: u8) -> bool
     (o == Registers::ERROR_DETECTION_1) | (o == Registers::ERROR_DETECTION_2)
 }
 
-pub fn read(r: Registers, offset: u8) -> Reading
-    ensures { λ x. ⌜ paperReading x ≡ readAt r offset ⌝ }
+pub fn read(r: Registers, offset: u32) -> RegisterRead
+    ensures { λ x. ⌜ paperRegisterRead x ≡ readAt r offset ⌝ }
 {
     if is_listed(offset) {
-        Reading::Value(r.byte(offset))
+        RegisterRead::Value(r.byte(offset as u8))
     } else {
-        Reading::Refused(Refusal::UnlistedOffset)
+        RegisterRead::Refused(Refusal::UnlistedOffset)
     }
 }
 
-fn judge_write(r: Registers, o: u8, v: u8) -> Verdict
-    ensures { λ x. ⌜ paperVerdict x ≡ declined r o v ⌝ }
+fn judge_write(r: Registers, offset: u32, v: u8) -> Verdict
+    ensures { λ x. ⌜ paperVerdict x ≡ declined r offset v ⌝ }
 {
-    if !is_listed(o) {
+    if !is_listed(offset) {
         return Verdict::Refused(Refusal::UnlistedOffset);
     }
+    let o = offset as u8;
     if is_read_only(o) {
         return Verdict::Refused(Refusal::ReadOnly);
     }
@@ -84,7 +88,7 @@ fn judge_write(r: Registers, o: u8, v: u8) -> Verdict
     Verdict::Accepted
 }
 
-// The byte that an accepted write leaves.
+// REG-10, REG-18: the byte that an accepted write leaves.
 fn new_byte(r: Registers, o: u8, v: u8) -> u8
     ensures { λ x. ⌜ x ≡ newByte r o v ⌝ }
 {
@@ -95,26 +99,27 @@ fn new_byte(r: Registers, o: u8, v: u8) -> u8
     }
 }
 
-// A write in place: one byte is stored, or none.
-pub fn set(registers: &mut [u8; 256], offset: u8, value: u8) -> Verdict
-    ensures { λ v. ⌜ (paperVerdict v, record { bytes = now (registers .exit) }) ≡ writeAt (record { bytes = now (registers .entry) }) offset value ⌝ }
+// REG-18: a register write in place; it stores one byte or none.
+pub fn write_in_place(registers: &mut [u8; 256], offset: u32, value: u8) -> Verdict
+    ensures { λ v. ⌜ (paperVerdict v, recordOf (now (registers .exit))) ≡ writeAt (recordOf (now (registers .entry))) offset value ⌝ }
 {
     let verdict = judge_write(Registers { bytes: *registers }, offset, value);
     match verdict {
         Verdict::Accepted => {
-            let byte = new_byte(Registers { bytes: *registers }, offset, value);
-            registers[offset as usize] = byte;
+            let o = offset as u8;
+            let byte = new_byte(Registers { bytes: *registers }, o, value);
+            registers[o as usize] = byte;
             Verdict::Accepted
         }
         Verdict::Refused(x) => Verdict::Refused(x),
     }
 }
 
-pub fn write(r: Registers, offset: u8, value: u8) -> Written
+pub fn write(r: Registers, offset: u32, value: u8) -> Written
     ensures { λ w. ⌜ paperWritten w ≡ writeAt r offset value ⌝ }
 {
     let mut bytes = r.bytes;
-    let verdict = set(&mut bytes, offset, value);
+    let verdict = write_in_place(&mut bytes, offset, value);
     Written {
         registers: Registers { bytes: bytes },
         verdict: verdict,

@@ -1,4 +1,5 @@
-// Prints where the worked addresses of document 01 are kept, and how a bank that ends at megabyte 255, 256 or 1023 maps.
+// EX-4 to EX-8: prints where the addresses of the worked examples are kept, and how addresses are mapped at the end of
+// a bank whose last megabyte is 255, 256 or 1023 (REG-5).
 use banks::Column;
 use banks::Mapping;
 use banks::Origin;
@@ -7,9 +8,9 @@ use banks::Row;
 use refusals::Refusal;
 use registers::Registers;
 
-// The record that a write leaves. A refused write leaves it as it was, and the lines printed then show it.
+// The record after a register write. If the write is refused the record is unchanged, which shows in the lines printed.
 fn set(r: Registers, offset: u8, value: u8) -> Registers {
-    let written = register_calls::write(r, offset, value);
+    let written = register_calls::write(r, offset as u32, value);
     let next = written.registers;
     next
 }
@@ -36,7 +37,7 @@ fn switch_on(r: Registers, enabled: u8) -> Registers {
     )
 }
 
-// Bank 0: MB 0 to 1, R 9. Bank 1: MB 2 to 4, R 10.
+// EX-3: the set-up of the worked examples.
 fn worked_record() -> Registers {
     let spans = set_span(set_span(Registers::fresh(), 0, 0, 1), 1, 2, 4);
     switch_on(set(spans, Registers::ROW_CODES, 4), 3)
@@ -73,8 +74,8 @@ fn print_map(r: Registers, address: u32) {
     io::write_all(1, b"\n");
 }
 
-fn print_way_back(r: Registers, bank: u8, row: u32, column: u32) {
-    print_number(b"bank ", bank as u32);
+fn print_way_back(r: Registers, bank: u32, row: u32, column: u32) {
+    print_number(b"bank ", bank);
     print_number(b" row ", row);
     print_number(b" column ", column);
     let origin = banks::way_back(r, bank, Row(row), Column(column));

@@ -30,8 +30,7 @@ impl Busline {
         }
     }
 
-    /// The program's output. That it can't run or doesn't end well is an
-    /// error.
+    /// The program's output; an error if it can't be run or fails.
     pub fn run(&self, input: &[u8], feed: Feed) -> Result<Vec<u8>, String> {
         let failed = |error: io::Error| format!("{}: {error}", self.program.display());
         let mut child = Command::new(&self.program)

@@ -9,7 +9,7 @@ use crate::coverage::Coverage;
 use crate::request::{nonzero, Given, Request, State};
 use crate::shrink::{self, Budget};
 
-/// The kind of a call with the part of its answer that names the way it went.
+/// The kind of a call and its outcome.
 pub type Met = (&'static str, u32);
 
 /// Where each call gets what the one before left.
@@ -20,7 +20,7 @@ pub struct Case {
     pub requests: Vec<Request>,
 }
 
-/// The first call at which the sides differ, and in what.
+/// The first call at which the sides differ, and how.
 pub struct Difference {
     pub index: usize,
     pub text: String,
@@ -35,7 +35,7 @@ impl Case {
         for (index, request) in self.requests.iter().enumerate() {
             let from_library = library.ask_library(request);
             let from_model = model.ask_model(request);
-            coverage.meet(met(request, from_model.answer));
+            coverage.meet(met(request, from_model.way(request)));
             let text = Given::difference(&from_library, &from_model)
                 .or_else(|| State::difference(&library, &model));
             if let Some(text) = text {
@@ -89,8 +89,9 @@ impl Case {
         self.shrink_alike(budget);
     }
 
-    /// The other record of an alike call is input too. What stands in both,
-    /// as a bank that doesn't matter does, can only go from both at once.
+    /// The other record of an alike call is input too. What is in both records,
+    /// such as a bank that doesn't matter, can only be removed from both at
+    /// once.
     fn shrink_alike(&mut self, budget: &Budget) {
         let [Request::Alike(second)] = self.requests.as_slice() else {
             return;
@@ -137,13 +138,19 @@ impl fmt::Display for Case {
     }
 }
 
-/// A register's value and the bank of a refusal don't name a way of their own.
-fn met(request: &Request, answer: u32) -> Met {
+/// A register's value, a count of cells, an address and the bank of a refusal
+/// don't name a way of their own.
+pub fn met(request: &Request, way: u32) -> Met {
     let kind = match request {
         Request::Judge => "judge",
+        Request::CellCount => "count",
         Request::Map(_) => "map",
+        Request::WayBack { bank, .. } if *bank > 255 => "wide way back",
         Request::WayBack { .. } => "way back",
         Request::Alike(_) => "alike",
+        Request::WideFlip { .. } => "wide flip",
+        Request::WideGet { .. } => "wide get",
+        Request::WideSet { .. } => "wide set",
         Request::Listed(Call::Read { .. }) => "read",
         Request::Listed(Call::Write { .. }) => "write",
         Request::Listed(Call::Flip { .. }) => "flip",
@@ -151,15 +158,15 @@ fn met(request: &Request, answer: u32) -> Met {
         Request::Listed(Call::ReadRegister { .. }) => "get",
         Request::Listed(Call::WriteRegister { .. }) => "set",
     };
-    let way = match answer {
+    let way = match way {
         refused if refused < ACCEPTED => refused % 256,
-        _ if kind == "get" => ACCEPTED,
+        _ if matches!(kind, "get" | "count" | "way back") => ACCEPTED,
         accepted => accepted,
     };
     (kind, way)
 }
 
-/// All the ways of one kind of call that a test is to meet.
+/// All outcomes of one kind of call that a test must cover.
 pub fn ways(
     kind: &'static str,
     accepted: &'static [u32],

@@ -1,5 +1,5 @@
-//! Which answers a test met. A random test that never met one of the answers
-//! that it is for has not looked at it, and fails.
+//! Which answers occurred in a test. A random test fails if one of the answers
+//! that it is meant to cover never occurred.
 
 use std::collections::BTreeSet;
 use std::fmt::Debug;
@@ -19,7 +19,7 @@ impl<K: Ord + Debug> Coverage<K> {
         self.met.insert(key);
     }
 
-    /// An error that names the wanted answers that were not met.
+    /// An error that names the answers that should have occurred and did not.
     pub fn check(&self, wanted: impl IntoIterator<Item = K>) -> Result<(), String> {
         let lacking: Vec<K> = wanted
             .into_iter()

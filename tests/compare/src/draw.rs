@@ -33,7 +33,8 @@ pub fn record(rng: &mut Rng) -> Record {
     record
 }
 
-/// A record that is on; only a hand can have made it so where it is refused.
+/// A record with memory on; if it is one that switching on refuses, it must be
+/// hand-made.
 pub fn mostly_on(rng: &mut Rng) -> Record {
     let mut record = match rng.below(10) {
         0 => record(rng),
@@ -52,8 +53,8 @@ fn refused_but_on(rng: &mut Rng) -> Record {
     record
 }
 
-/// Counter and trigger often stand next to each other, the detections are
-/// often clear: else a trigger or an error address would be rare.
+/// Counter and trigger are often close together and the detection bits often
+/// clear; otherwise triggers and error addresses would be rare.
 pub fn scatter_error_registers(rng: &mut Rng, record: &mut Record) {
     let counter = match rng.below(3) {
         0 => rng.pick(&[0, 1, 253, 254, 255]),
@@ -72,8 +73,9 @@ pub fn scatter_error_registers(rng: &mut Rng, record: &mut Record) {
     }
 }
 
-/// Changes that no address feels: registers of banks that are off, error
-/// registers, bytes at no listed offset, the high bits of extended bytes.
+/// Changes that do not affect the map of any address: registers of banks that
+/// are off, error registers, bytes at no listed offset, the high bits of
+/// extended bytes.
 pub fn harmless_change(rng: &mut Rng, record: &Record) -> Record {
     let mut other = *record;
     for _ in 0..1 + rng.below(6) {
@@ -95,8 +97,8 @@ pub fn harmless_change(rng: &mut Rng, record: &Record) -> Record {
     other
 }
 
-/// An address: near a bank where the record has any, at an edge, the same
-/// with a bit above the ten of an MB, or anywhere.
+/// An address: near a bank if the record has any, at an edge, the same with a
+/// bit above the ten of an MB, or anywhere.
 pub fn address(rng: &mut Rng, layout: Option<&Layout>) -> u32 {
     match (rng.below(12), layout) {
         (0, _) => rng.pick(&EDGES),
@@ -107,8 +109,8 @@ pub fn address(rng: &mut Rng, layout: Option<&Layout>) -> u32 {
     }
 }
 
-/// Addresses of the doublewords whose cells stand at these numbers; fewer
-/// where no address has the cell, none where the record is off or refused.
+/// Addresses of the doublewords with these cell numbers; a cell without an
+/// address is left out, and a record that is not ready has none.
 pub fn addresses_of_cells(record: &Record, cells: &[u32]) -> Vec<u32> {
     let Ok(layout) = map::switched_on(record) else {
         return Vec::new();

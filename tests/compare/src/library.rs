@@ -1,130 +1,91 @@
-//! The proved library through its C interface. All unsafe code is here.
+//! The proved library through its C functions, as `rust/src/ffi.rs` declares
+//! them.
 
 use model::Record;
-
-mod c {
-    extern "C" {
-        pub fn mpc106_fresh(record: *mut u8);
-        pub fn mpc106_judge(record: *const u8) -> u32;
-        pub fn mpc106_register_read(record: *const u8, offset: u8) -> u32;
-        pub fn mpc106_register_write(record: *mut u8, offset: u8, value: u8) -> u32;
-        pub fn mpc106_map(record: *const u8, address: u32, place: *mut u32) -> u32;
-        pub fn mpc106_way_back(
-            record: *const u8,
-            bank: u8,
-            row: u32,
-            column: u32,
-            address: *mut u32,
-        ) -> u32;
-        pub fn mpc106_alike(first: *const u8, second: *const u8) -> u32;
-        pub fn mpc106_read(
-            record: *mut u8,
-            cells: *const u8,
-            cells_length: usize,
-            address: u32,
-            buffer: *mut u8,
-            buffer_length: usize,
-        ) -> u32;
-        pub fn mpc106_write(
-            record: *mut u8,
-            cells: *mut u8,
-            cells_length: usize,
-            address: u32,
-            bytes: *const u8,
-            bytes_length: usize,
-        ) -> u32;
-        pub fn mpc106_flip(
-            record: *mut u8,
-            cells: *mut u8,
-            cells_length: usize,
-            address: u32,
-            bit: u8,
-        ) -> u32;
-        pub fn mpc106_scrub(
-            record: *mut u8,
-            cells: *mut u8,
-            cells_length: usize,
-            address: u32,
-        ) -> u32;
-    }
-}
+use mpc106::ffi;
 
 // In each call below the pointers come from live references of exactly the
 // lengths that the interface names, and none is kept by the library.
 
 pub fn fresh(record: &mut Record) {
-    unsafe { c::mpc106_fresh(record.bytes.as_mut_ptr()) }
+    unsafe { ffi::mpc106_raw_fresh(&mut record.bytes) }
 }
 
 pub fn judge(record: &Record) -> u32 {
-    unsafe { c::mpc106_judge(record.bytes.as_ptr()) }
+    unsafe { ffi::mpc106_raw_judge(&record.bytes) }
 }
 
-pub fn register_read(record: &Record, offset: u8) -> u32 {
-    unsafe { c::mpc106_register_read(record.bytes.as_ptr(), offset) }
+pub fn cell_count(record: &Record, count: &mut [u32; 1]) -> u32 {
+    unsafe { ffi::mpc106_raw_cell_count(&record.bytes, count) }
 }
 
-pub fn register_write(record: &mut Record, offset: u8, value: u8) -> u32 {
-    unsafe { c::mpc106_register_write(record.bytes.as_mut_ptr(), offset, value) }
+pub fn register_read(record: &Record, offset: u32, value: &mut [u8; 1]) -> u32 {
+    unsafe { ffi::mpc106_raw_register_read(&record.bytes, offset, value) }
 }
 
-pub fn map(record: &Record, address: u32, place: &mut [u32; 4]) -> u32 {
-    unsafe { c::mpc106_map(record.bytes.as_ptr(), address, place.as_mut_ptr()) }
+pub fn register_write(record: &mut Record, offset: u32, value: u8) -> u32 {
+    unsafe { ffi::mpc106_raw_register_write(&mut record.bytes, offset, value) }
 }
 
-pub fn way_back(record: &Record, bank: u8, row: u32, column: u32, address: &mut u32) -> u32 {
-    unsafe { c::mpc106_way_back(record.bytes.as_ptr(), bank, row, column, address) }
+pub fn map(record: &Record, address: u32, place: &mut [u32; 5]) -> u32 {
+    unsafe { ffi::mpc106_raw_map(&record.bytes, address, place) }
 }
 
-pub fn alike(first: &Record, second: &Record) -> u32 {
-    unsafe { c::mpc106_alike(first.bytes.as_ptr(), second.bytes.as_ptr()) }
+pub fn way_back(record: &Record, bank: u32, row: u32, column: u32, address: &mut [u32; 1]) -> u32 {
+    unsafe { ffi::mpc106_raw_way_back(&record.bytes, bank, row, column, address) }
 }
 
-pub fn read(record: &mut Record, cells: &[u8], address: u32, buffer: &mut [u8]) -> u32 {
+pub fn alike(first: &Record, second: &Record, alike: &mut [u32; 1]) -> u32 {
+    unsafe { ffi::mpc106_raw_alike(&first.bytes, &second.bytes, alike) }
+}
+
+pub fn read(
+    record: &mut Record,
+    cells: &[u8],
+    address: u32,
+    buffer: &mut [u8],
+    answer: &mut [u32; 5],
+) -> u32 {
+    let (pointer, length) = (buffer.as_mut_ptr(), buffer.len());
     unsafe {
-        c::mpc106_read(
-            record.bytes.as_mut_ptr(),
+        ffi::mpc106_raw_read(
+            &mut record.bytes,
             cells.as_ptr(),
             cells.len(),
             address,
-            buffer.as_mut_ptr(),
-            buffer.len(),
+            pointer,
+            length,
+            answer,
         )
     }
 }
 
-pub fn write(record: &mut Record, cells: &mut [u8], address: u32, bytes: &[u8]) -> u32 {
+pub fn write(
+    record: &mut Record,
+    cells: &mut [u8],
+    address: u32,
+    bytes: &[u8],
+    answer: &mut [u32; 5],
+) -> u32 {
     unsafe {
-        c::mpc106_write(
-            record.bytes.as_mut_ptr(),
+        ffi::mpc106_raw_write(
+            &mut record.bytes,
             cells.as_mut_ptr(),
             cells.len(),
             address,
             bytes.as_ptr(),
             bytes.len(),
+            answer,
         )
     }
 }
 
-pub fn flip(record: &mut Record, cells: &mut [u8], address: u32, bit: u8) -> u32 {
-    unsafe {
-        c::mpc106_flip(
-            record.bytes.as_mut_ptr(),
-            cells.as_mut_ptr(),
-            cells.len(),
-            address,
-            bit,
-        )
-    }
+pub fn flip(record: &Record, cells: &mut [u8], address: u32, bit: u32) -> u32 {
+    let (pointer, length) = (cells.as_mut_ptr(), cells.len());
+    unsafe { ffi::mpc106_raw_flip(&record.bytes, pointer, length, address, bit) }
 }
 
-pub fn scrub(record: &mut Record, cells: &mut [u8], address: u32) -> u32 {
-    unsafe {
-        c::mpc106_scrub(
-            record.bytes.as_mut_ptr(),
-            cells.as_mut_ptr(),
-            cells.len(),
-            address,
-        )
-    }
+pub fn scrub(record: &mut Record, cells: &mut [u8], address: u32, answer: &mut [u32; 5]) -> u32 {
+    let (pointer, length) = (cells.as_mut_ptr(), cells.len());
+    unsafe { ffi::mpc106_raw_scrub(&mut record.bytes, pointer, length, address, answer) }
 }

@@ -1,9 +1,9 @@
-//! Compares the proved library and `busline` with the model made apart, on
-//! seeded random inputs and on the examples of document 01.
+//! Compares the proved library and `busline` with the second model, on seeded
+//! random inputs and on the worked examples (EX-1 to EX-11).
 //!
 //! `compare [NAME...]` runs all tests or the named ones. `COMPARE_SEED` sets
-//! the seed, `BUSLINE` the path of the program. One line for each test, then
-//! `N passed, M failed`.
+//! the seed, `BUSLINE` the path of the program. One line for each test, then `N
+//! passed, M failed`.
 
 mod answers;
 mod busline;
@@ -11,6 +11,7 @@ mod case;
 mod coverage;
 mod draw;
 mod library;
+mod limit;
 mod request;
 mod shrink;
 mod tests;

@@ -22,7 +22,8 @@ impl Budget {
     }
 }
 
-/// Leaves out items, in stretches that get shorter, while the rest fails.
+/// Removes runs of items, shorter and shorter ones, as long as the rest still
+/// fails.
 pub fn fewer<T: Clone>(
     budget: &Budget,
     mut items: Vec<T>,
@@ -44,7 +45,7 @@ pub fn fewer<T: Clone>(
                 at = end;
             }
         }
-        // Single items are tried again until none of them can go.
+        // Single items are tried again until none of them can be removed.
         if stretch == 1 && items.len() == before {
             return items;
         }
@@ -52,8 +53,8 @@ pub fn fewer<T: Clone>(
     }
 }
 
-/// Zeroes stretches of bytes, then single bits, while the bytes fail; again
-/// and again, since one byte may only matter as long as another stands.
+/// Clears runs of bytes, then single bits, as long as the rest still fails;
+/// repeatedly, since one byte may matter only because of another.
 pub fn zeroed(
     budget: &Budget,
     mut bytes: Vec<u8>,

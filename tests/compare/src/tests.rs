@@ -1,6 +1,7 @@
 //! The tests by name.
 
 mod examples;
+mod limit;
 mod lists;
 mod map;
 mod memory;
@@ -22,6 +23,9 @@ pub struct Test {
 pub const TESTS: &[Test] = &[
     test("shrinking", |_, _| shrinking::only_the_guilty_is_left()),
     test("examples", |_, _| examples::places_and_lengths()),
+    test("examples-interface", |_, _| {
+        examples::wide_numbers_and_cells()
+    }),
     test("examples-memory", |_, _| examples::memory_and_errors()),
     test("examples-lines", |_, busline| examples::lines(busline)),
     test("bank-ends", |_, busline| examples::bank_ends(busline)),
@@ -30,12 +34,14 @@ pub const TESTS: &[Test] = &[
         registers::every_write(rng)
     }),
     test("map", |rng, _| map::addresses(rng)),
+    test("cell-count", |rng, _| map::cell_counts(rng)),
     test("way-back", |rng, _| map::way_back(rng)),
     test("alike", |rng, _| map::alike(rng)),
     test("alike-exhaustive", |rng, _| map::alike_exhaustive(rng)),
     test("memory", |rng, _| memory::few_cells(rng)),
     test("memory-two-banks", |rng, _| memory::two_banks(rng)),
     test("every-flip", |rng, _| memory::every_flip(rng)),
+    test("limit", |rng, _| limit::beside_the_library(rng)),
     test("lists", |rng, _| lists::against_flat_machine(rng)),
     test("scripts", scripts::random_scripts),
     test("scripts-mangled", scripts::mangled_scripts),

@@ -40,7 +40,7 @@ pub enum Outcome {
     Answered(Answer),
     /// Of an accepted read: the answer and the bytes put in its buffer.
     Read(Answer, Vec<u8>),
-    /// "Of a flip only that it was accepted."
+    /// LIST-9: of a flip only that it was accepted.
     Flipped,
 }
 

@@ -1,16 +1,12 @@
 //! The check byte: columns, syndrome and its reading, flips.
 
-/// Nine bytes: "eight data bytes in address order, one check byte".
+/// MAP-8: nine bytes, the last of which is the check byte.
 pub const CELL_BYTES: usize = 9;
 
 /// Flip bits: 64 data bits and 8 check bits.
 pub const FLIP_BITS: u8 = 72;
 
-/// The column of each flip bit.
-///
-/// "bits 0 to 55 have the numbers with exactly three ones, ascending (7, 11,
-/// 13, 14, 19, ..); bits 56 to 63 have 31, 47, 55, 59, 61, 62, 79, 87. Flip
-/// bit 64+j is check bit j, column 2^j."
+/// ECC-2, ECC-3: the column of each flip bit.
 pub const COLUMNS: [u8; FLIP_BITS as usize] = columns();
 
 const FIVE_ONES: [u8; 8] = [31, 47, 55, 59, 61, 62, 79, 87];
@@ -35,8 +31,8 @@ const fn columns() -> [u8; FLIP_BITS as usize] {
     columns
 }
 
-/// The columns of all one bits of each byte value at each of the eight data
-/// bytes, so that a check byte takes eight look-ups.
+/// For each data byte and each of its values, the exclusive-or of the columns
+/// of its one bits, so that a check byte takes eight look-ups.
 static BYTE_CHECKS: [[u8; 256]; 8] = byte_checks();
 
 const fn byte_checks() -> [[u8; 256]; 8] {
@@ -60,7 +56,7 @@ const fn byte_checks() -> [[u8; 256]; 8] {
 #[derive(Clone, Copy, Debug, PartialEq, Eq)]
 pub enum Reading {
     Clean,
-    /// The flip bit (0 to 71) that alone is put right.
+    /// The one flip bit (0 to 71) that is corrected.
     Corrected(u8),
     Uncorrectable,
 }
@@ -78,8 +74,7 @@ const fn readings() -> [Reading; 256] {
     readings
 }
 
-/// "The check byte is the exclusive-or of the columns of all data bits that
-/// are one."
+/// ECC-4: the check byte.
 pub fn check_byte(data: &[u8; 8]) -> u8 {
     data.iter()
         .zip(&BYTE_CHECKS)
@@ -88,13 +83,12 @@ pub fn check_byte(data: &[u8; 8]) -> u8 {
         })
 }
 
-/// "Syndrome: that value exclusive-or the stored check byte."
+/// ECC-5: the syndrome.
 pub fn syndrome(data: &[u8; 8], stored_check: u8) -> u8 {
     check_byte(data) ^ stored_check
 }
 
-/// "Zero is clean; a column means that bit alone is put right; otherwise
-/// uncorrectable."
+/// ECC-6: what a syndrome means.
 pub fn reading(syndrome: u8) -> Reading {
     READINGS[usize::from(syndrome)]
 }
@@ -105,7 +99,7 @@ pub fn split_cell(cell: &[u8; CELL_BYTES]) -> ([u8; 8], u8) {
     ([a, b, c, d, e, f, g, h], check)
 }
 
-/// Reads a cell: how it stands, and its data, put right where one bit can be.
+/// Decodes a cell: its reading, and its data, corrected if possible.
 pub fn read_cell(cell: &[u8; CELL_BYTES]) -> (Reading, [u8; 8]) {
     let (data, check) = split_cell(cell);
     let reading = reading(syndrome(&data, check));
@@ -125,8 +119,7 @@ pub fn store_cell(cell: &mut [u8; CELL_BYTES], data: &[u8; 8]) {
     cell[8] = check_byte(data);
 }
 
-/// Turns over one of bits 0 to 71. "Data bit 0 is the top bit of byte 0, bit
-/// 63 the bottom bit of byte 7"; check bit j has the value 2^j.
+/// ECC-1, ECC-3: inverts one of the flip bits 0 to 71.
 pub fn flip(cell: &mut [u8; CELL_BYTES], bit: u8) {
     if bit < 64 {
         cell[usize::from(bit / 8)] ^= 0x80 >> (bit % 8);

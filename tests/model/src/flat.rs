@@ -1,5 +1,4 @@
-//! The flat machine: "it knows the spans, one byte for each address in them,
-//! and a mark for each doubleword". It has no cells and no check bytes.
+//! The flat machine (FLAT-1), which has no cells and no check bytes.
 
 use std::collections::{HashMap, HashSet};
 
@@ -16,8 +15,8 @@ pub struct Span {
     pub last_mb: u32,
 }
 
-/// "At first bytes are 0 and no mark stands": an address without an entry has
-/// the byte 0, a doubleword not in `marks` has none.
+/// FLAT-1: an address without an entry has the byte 0, and a doubleword that is
+/// not in `marks` has no mark.
 #[derive(Clone, Debug, Default)]
 pub struct FlatMachine {
     spans: Vec<Span>,
@@ -51,8 +50,8 @@ impl FlatMachine {
             .any(|span| span.start_mb <= megabyte && megabyte <= span.last_mb)
     }
 
-    /// Runs a list. Register calls give `None`: the error-register calls "do
-    /// nothing to it", and "What register calls give is left to demand 2."
+    /// Runs a list. Register calls give `None`: they leave the flat machine as
+    /// it is (FLAT-8), and what they return is not compared (LIST-10).
     pub fn run(&mut self, calls: &[Call]) -> Vec<Option<Outcome>> {
         calls.iter().map(|call| self.step(call)).collect()
     }
@@ -69,7 +68,7 @@ impl FlatMachine {
         Some(outcome.unwrap_or_else(Outcome::Refused))
     }
 
-    /// "A read gives the bytes and answers by the mark."
+    /// FLAT-3
     fn read(&self, address: u32, count: usize) -> Result<Outcome, Refusal> {
         check_access(address, count)?;
         if !self.selects_bank(address) {
@@ -82,8 +81,7 @@ impl FlatMachine {
         Ok(Outcome::Read(answer_by_mark(marked), bytes))
     }
 
-    /// "An accepted write puts its bytes, answers 'stored' if 8, else
-    /// corrected or clean as the mark stands, then clears it."
+    /// FLAT-2
     fn write(&mut self, address: u32, bytes: &[u8]) -> Result<Outcome, Refusal> {
         check_access(address, bytes.len())?;
         if !self.selects_bank(address) {
@@ -100,7 +98,7 @@ impl FlatMachine {
         }))
     }
 
-    /// "A flip sets the mark."
+    /// FLAT-5
     fn flip(&mut self, address: u32, bit: u8) -> Result<Outcome, Refusal> {
         if bit > 71 {
             return Err(Refusal::BadFlipBit);
@@ -112,7 +110,7 @@ impl FlatMachine {
         Ok(Outcome::Flipped)
     }
 
-    /// "A scrub answers by the mark, then clears it."
+    /// FLAT-4
     fn scrub(&mut self, address: u32) -> Outcome {
         Outcome::Answered(if self.selects_bank(address) {
             answer_by_mark(self.marks.remove(&doubleword(address)))
@@ -122,7 +120,7 @@ impl FlatMachine {
     }
 }
 
-/// "A doubleword is 8 bytes at a multiple of 8": its number.
+/// The number of the doubleword that contains an address.
 pub fn doubleword(address: u32) -> u32 {
     address / 8
 }
@@ -135,8 +133,8 @@ fn answer_by_mark(marked: bool) -> Answer {
     }
 }
 
-/// Refusals 6 and 7 "follow from arguments". Written again, not shared with
-/// the cells, so that one slip doesn't hide in both.
+/// FLAT-6: refusals 6 and 7 follow from the arguments. They are written again,
+/// not shared with the cells, so that one mistake cannot hide in both.
 fn check_access(address: u32, count: usize) -> Result<(), Refusal> {
     if !(1..=8).contains(&count) {
         return Err(Refusal::BadCount);

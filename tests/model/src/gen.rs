@@ -33,7 +33,7 @@ impl Rng {
         self.next_u64() as u8
     }
 
-    /// True in that many cases of a hundred.
+    /// True in that many percent of cases.
     pub fn percent(&mut self, chance: u32) -> bool {
         self.below(100) < chance
     }

@@ -1,8 +1,9 @@
 //! The memory side of the MPC106: registers, banks, map, check code, memory
 //! calls with their error registers, the flat machine and the line program.
 //!
-//! This is a second implementation, written from document 01 alone. Quoted
-//! sentences in comments are that document's.
+//! This is a second implementation, written from the specification alone,
+//! without looking at the first. Comments cite the rules of
+//! docs/SPECIFICATION.md.
 
 pub mod calls;
 pub mod code;

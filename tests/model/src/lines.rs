@@ -7,10 +7,10 @@ use crate::memory::{self, Answer};
 use crate::record::Record;
 use crate::refusal::Refusal;
 
-/// "7,280 lent cells."
+/// LINE-9
 pub const LENT_CELLS: usize = 7280;
 
-/// "40 bytes at most", the LF not counted.
+/// LINE-1: the LF is not counted.
 pub const LONGEST_LINE: usize = 40;
 
 /// The largest count that two decimal digits can ask for.
@@ -20,8 +20,7 @@ const CHUNK: usize = 1 << 16;
 
 const HEX: &[u8; 16] = b"0123456789abcdef";
 
-/// "All its lines share one record, fresh at first, and 7,280 lent cells,
-/// zero at first."
+/// LINE-9: the record and the cells that all lines share.
 pub struct LineProgram {
     record: Record,
     cells: Vec<u8>,
@@ -78,7 +77,7 @@ impl LineProgram {
                     put_refusal(out, refusal);
                 }
             }
-            // "A malformed line prints ?,18."
+            // LINE-11
             None => {
                 out.push(b'?');
                 put_refusal(out, Refusal::MalformedLine);
@@ -133,7 +132,7 @@ impl Bytes {
     }
 }
 
-/// Runs the program from an input to an output. Chunks of any size may come.
+/// Runs the program from an input to an output. Chunks may have any size.
 pub fn run(mut input: impl Read, mut output: impl Write) -> io::Result<()> {
     let mut program = LineProgram::new();
     let mut splitter = LineSplitter::default();
@@ -160,8 +159,8 @@ pub fn run(mut input: impl Read, mut output: impl Write) -> io::Result<()> {
 /// Cuts chunks into lines, keeping an unfinished line for the next chunk.
 #[derive(Default)]
 struct LineSplitter {
-    /// The unfinished line; of one that is too long only so much that it is
-    /// still seen to be too long.
+    /// The unfinished line; of a line that is too long, just enough to know
+    /// that it is.
     pending: Vec<u8>,
 }
 
@@ -186,7 +185,7 @@ impl LineSplitter {
             .extend_from_slice(&part[..part.len().min(room)]);
     }
 
-    /// "The last LF may lack": what is left is a line if it has any byte.
+    /// LINE-1: what is left after the last LF is a line if it has any byte.
     fn finish(self, mut take_line: impl FnMut(&[u8])) {
         if !self.pending.is_empty() {
             take_line(&self.pending);
@@ -194,8 +193,7 @@ impl LineSplitter {
     }
 }
 
-/// A line's fields, or nothing if it is malformed: "fields parted by commas,
-/// no quoting".
+/// LINE-2: the fields of a line, or nothing if it is malformed.
 fn parse(line: &[u8]) -> Option<Line> {
     if line.len() > LONGEST_LINE {
         return None;
@@ -239,7 +237,7 @@ fn hex_digit(digit: u8) -> Option<u8> {
     }
 }
 
-/// "Two hexadecimal digits each."
+/// LINE-3: two hexadecimal digits.
 fn hex_byte(field: &[u8]) -> Option<u8> {
     let &[high, low] = field else {
         return None;
@@ -247,7 +245,7 @@ fn hex_byte(field: &[u8]) -> Option<u8> {
     Some(hex_digit(high)? << 4 | hex_digit(low)?)
 }
 
-/// "Addresses have 8 hexadecimal digits."
+/// LINE-7: an address.
 fn hex_address(field: &[u8]) -> Option<u32> {
     if field.len() != 8 {
         return None;
@@ -257,7 +255,7 @@ fn hex_address(field: &[u8]) -> Option<u32> {
     })
 }
 
-/// "Bytes 2 to 16 (even)" digits.
+/// LINE-4: the bytes of a write.
 fn hex_bytes(field: &[u8]) -> Option<Bytes> {
     if !matches!(field.len(), 2 | 4 | 6 | 8 | 10 | 12 | 14 | 16) {
         return None;
@@ -272,8 +270,7 @@ fn hex_bytes(field: &[u8]) -> Option<Bytes> {
     })
 }
 
-/// "Count and bit are one or two decimal digits without a leading zero (0
-/// itself is allowed)."
+/// LINE-8: a count or a bit.
 fn decimal(field: &[u8]) -> Option<u8> {
     match *field {
         [digit @ b'0'..=b'9'] => Some(digit - b'0'),
@@ -282,8 +279,7 @@ fn decimal(field: &[u8]) -> Option<u8> {
     }
 }
 
-/// "The letter, 0 or the refusal in decimal (of 12 to 14 the bank is not
-/// printed)": the part after the letter.
+/// LINE-12: the part after the letter.
 fn put_refusal(out: &mut Vec<u8>, refusal: Refusal) {
     let number = refusal.number();
     out.push(b',');
@@ -297,7 +293,7 @@ fn put_accepted(out: &mut Vec<u8>) {
     out.extend_from_slice(b",0");
 }
 
-/// "n clean, c corrected, u uncorrectable, e no bank, p stored."
+/// LINE-14: the letter of an answer.
 fn put_answer(out: &mut Vec<u8>, answer: Answer) {
     put_accepted(out);
     out.push(b',');

@@ -10,7 +10,7 @@ const DOUBLEWORDS_PER_MB: u32 = 1 << 17;
 /// Banks end at MB 1023 at the latest: ten bits name an MB.
 const MEGABYTES: u32 = 1 << 10;
 
-/// "A row number and a column number are never taken for each other."
+/// MAP-5: a type of its own, as is [`Column`].
 #[derive(Clone, Copy, Debug, PartialEq, Eq)]
 pub struct Row(pub u32);
 
@@ -27,7 +27,7 @@ pub struct Place {
     pub cell: u32,
 }
 
-/// An enabled bank that passed judgement.
+/// An enabled bank without a fault.
 #[derive(Clone, Copy, Debug, PartialEq, Eq)]
 pub struct Bank {
     pub start_mb: u32,
@@ -71,10 +71,9 @@ impl Layout {
         self.enabled().map(|(_, bank)| bank.cells()).sum()
     }
 
-    /// "An address selects the enabled bank whose MB span holds it."
+    /// MAP-2: the bank that an address selects.
     pub fn locate(&self, address: u32) -> Option<Place> {
-        // "The cell number is w plus, for every enabled bank of lower number,
-        // that bank's own 2^(R+C)."
+        // MAP-6: the cells of the lower enabled banks come first.
         let mut lower_cells = 0;
         for (n, bank) in self.enabled() {
             if bank.holds(address >> 20) {
@@ -93,8 +92,7 @@ impl Layout {
     }
 }
 
-/// "Let w = (address / 8) mod 2^(R+C): the address itself, not its distance
-/// from the start. The row is w / 2^C rounded down, the column w mod 2^C."
+/// MAP-3, MAP-4: w from the whole address, then row and column.
 fn place(n: u8, bank: &Bank, lower_cells: u32, address: u32) -> Place {
     let w = address / 8 % bank.cells();
     let columns = 1 << bank.column_bits;
@@ -106,14 +104,13 @@ fn place(n: u8, bank: &Bank, lower_cells: u32, address: u32) -> Place {
     }
 }
 
-/// "A bank of L MB has C column bits, the smallest of 8, 9, .., R with
-/// 2^(R+C+3) >= L * 2^20"; none if the bank is too long for its rows.
+/// REG-14: C, the number of column bits; none if the bank is too long for its
+/// rows.
 pub fn column_bits(row_bits: u32, length_mb: u32) -> Option<u32> {
     (8..=row_bits).find(|c| 1u64 << (row_bits + c + 3) >= u64::from(length_mb) << 20)
 }
 
-/// Judges the banks as switching on does: "11; then 12, 13 bank by bank
-/// upward; then 14 at the lowest such bank".
+/// ON-2, REF-103: judges the banks as switching on does.
 pub fn judge(record: &Record) -> Result<Layout, Refusal> {
     let mut layout = Layout {
         banks: [None; BANKS as usize],
@@ -149,7 +146,7 @@ fn judge_bank(record: &Record, n: u8) -> Result<Bank, Refusal> {
     })
 }
 
-/// "A record made by hand is judged again at each call (refusal 5)."
+/// ON-7, REF-5: each call judges its record again.
 pub fn switched_on(record: &Record) -> Result<Layout, Refusal> {
     if !record.is_on() {
         return Err(Refusal::NotSwitchedOn);
@@ -157,13 +154,12 @@ pub fn switched_on(record: &Record) -> Result<Layout, Refusal> {
     judge(record).map_err(|_| Refusal::NotSwitchedOn)
 }
 
-/// "The map takes an address and gives bank, row, column and cell number, or
-/// 'no bank'" (`None`).
+/// MAP-9: the map; `None` is "no bank".
 pub fn map(record: &Record, address: u32) -> Result<Option<Place>, Refusal> {
     Ok(switched_on(record)?.locate(address))
 }
 
-/// "The way back takes bank, row, column and gives the doubleword's address."
+/// BACK-1: the way back.
 pub fn way_back(record: &Record, n: u8, row: Row, column: Column) -> Result<u32, Refusal> {
     let layout = switched_on(record)?;
     let bank = layout
@@ -178,9 +174,9 @@ pub fn way_back(record: &Record, n: u8, row: Row, column: Column) -> Result<u32,
     find_doubleword(&bank, row, column).ok_or(Refusal::NoAddress)
 }
 
-/// Tries w at each multiple of 2^(R+C) that reaches into the span. A span is
-/// no longer than one such stretch, so it touches two of them at most and
-/// holds w once at most.
+/// Tries w in each stretch of 2^(R+C) doublewords that reaches into the span.
+/// A span is no longer than one such stretch, so it touches at most two of them
+/// and holds w at most once.
 fn find_doubleword(bank: &Bank, row: Row, column: Column) -> Option<u32> {
     let w = row.0 * (1 << bank.column_bits) + column.0;
     let first = bank.start_mb * DOUBLEWORDS_PER_MB;
@@ -193,8 +189,7 @@ fn find_doubleword(bank: &Bank, row: Row, column: Column) -> Option<u32> {
         .map(|doubleword| doubleword * 8)
 }
 
-/// "Two switched-on records are alike when every address has the same bank,
-/// row and column, or no bank, in both."
+/// ALIKE-1: whether two records are alike.
 ///
 /// Every MB is compared at the doublewords of [`deciding_doublewords`]; no
 /// record has a bank past MB 1023.
@@ -210,10 +205,10 @@ pub fn alike(one: &Record, other: &Record) -> Result<bool, Refusal> {
     Ok(same)
 }
 
-/// Doublewords of an MB whose places decide those of all others in it: within
-/// one MB the bank is one, and each bit of row and column is a bit of the
-/// doubleword's number or is the same throughout. So doubleword 0 and those
-/// with a single one bit show which bit goes where.
+/// Doublewords of an MB whose places decide those of all others in it: one MB
+/// has one bank, and each bit of row and column either is a bit of the
+/// doubleword's number or is constant within the MB. So doubleword 0 and the
+/// doublewords whose number has a single one bit show which bit goes where.
 fn deciding_doublewords() -> impl Iterator<Item = u32> {
     std::iter::once(0).chain((0..17).map(|bit| 1 << bit))
 }
@@ -234,7 +229,7 @@ pub fn alike_exhaustive(one: &Record, other: &Record) -> Result<bool, Refusal> {
     Ok(same)
 }
 
-/// Bank, row and column count, the cell number doesn't.
+/// ALIKE-2: bank, row and column count, the cell number doesn't.
 fn same_place(one: &Layout, other: &Layout, address: u32) -> bool {
     let shown = |layout: &Layout| {
         layout

@@ -35,8 +35,7 @@ impl From<Reading> for Answer {
     }
 }
 
-/// Read of 1 to 8 bytes inside one doubleword, "the count being the lent
-/// buffer's length". "The cell is not changed."
+/// MEM-2, MEM-3: a read; its count is the length of the buffer.
 pub fn read(
     record: &mut Record,
     cells: &[u8],
@@ -46,13 +45,12 @@ pub fn read(
     let layout = map::switched_on(record)?;
     let bytes = access(address, buffer.len())?;
     let answer = match lent_cell(&layout, cells.len(), address)? {
-        // "No bank selected: a read fills its buffer with FF."
+        // MEM-9
         None => {
             buffer.fill(0xFF);
             Answer::NoBank
         }
-        // "Clean and corrected give right bytes, uncorrectable gives the
-        // stored ones."
+        // MEM-3: the right bytes, or if they are lost the stored ones.
         Some(range) => {
             let (reading, data) = code::read_cell(cell(cells, range));
             buffer.copy_from_slice(&data[bytes]);
@@ -63,7 +61,7 @@ pub fn read(
     Ok(answer)
 }
 
-/// Write of 1 to 8 bytes inside one doubleword.
+/// MEM-2: a write.
 pub fn write(
     record: &mut Record,
     cells: &mut [u8],
@@ -80,9 +78,7 @@ pub fn write(
     Ok(answer)
 }
 
-/// "Write of 8: stores data and check, looks at nothing old, answers
-/// 'stored'. Shorter: correct, merge, store, answering clean or corrected; on
-/// uncorrectable, which is then the answer, the cell stays."
+/// MEM-4 for eight bytes; MEM-5 and MEM-6 for fewer.
 fn write_cell(cell: &mut [u8; CELL_BYTES], part: Range<usize>, bytes: &[u8]) -> Answer {
     if let Ok(data) = bytes.try_into() {
         code::store_cell(cell, data);
@@ -96,8 +92,7 @@ fn write_cell(cell: &mut [u8; CELL_BYTES], part: Range<usize>, bytes: &[u8]) -> 
     reading.into()
 }
 
-/// "Flip: turns over one of bits 0 to 71 of the doubleword holding the
-/// address." "A flip touches no register", hence the shared record.
+/// MEM-7: a flip. It changes no register (ERR-8), hence the shared record.
 pub fn flip(record: &Record, cells: &mut [u8], address: u32, bit: u8) -> Result<(), Refusal> {
     let layout = map::switched_on(record)?;
     if bit >= FLIP_BITS {
@@ -109,8 +104,7 @@ pub fn flip(record: &Record, cells: &mut [u8], address: u32, bit: u8) -> Result<
     Ok(())
 }
 
-/// "Scrub of the doubleword holding the address: answers as a read does; a
-/// corrected cell is stored again."
+/// MEM-8: a scrub.
 pub fn scrub(record: &mut Record, cells: &mut [u8], address: u32) -> Result<Answer, Refusal> {
     let layout = map::switched_on(record)?;
     let answer = match lent_cell(&layout, cells.len(), address)? {
@@ -141,8 +135,8 @@ fn access(address: u32, count: usize) -> Result<Range<usize>, Refusal> {
     Ok(first..first + count)
 }
 
-/// "Cell k is the nine lent bytes from 9k": their range, none without a bank,
-/// or refusal 9 if not all nine are lent.
+/// MAP-8, MEM-11: the range of cell k; none without a bank, or refusal 9 if not
+/// all nine bytes are lent.
 fn lent_cell(layout: &Layout, lent: usize, address: u32) -> Result<Option<Range<usize>>, Refusal> {
     let Some(place) = layout.locate(address) else {
         return Ok(None);
@@ -172,15 +166,14 @@ fn report(record: &mut Record, answer: Answer, address: u32) {
     let detected = match answer {
         Answer::Clean | Answer::Stored => false,
         Answer::Corrected => count_correction(record),
-        // "'No bank' sets C1 bit 5 if C0 bit 5 is set."
+        // ERR-3
         Answer::NoBank => detect(record, ERROR_ENABLE_1, ERROR_DETECTION_1, NO_BANK_BIT),
-        // "'Uncorrectable' sets C5 bit 3 if C4 bit 3 is set."
+        // ERR-4
         Answer::Uncorrectable => {
             detect(record, ERROR_ENABLE_2, ERROR_DETECTION_2, UNCORRECTABLE_BIT)
         }
     };
-    // "If such a bit is set while C1 and C5 were both zero, the call's
-    // address goes to C8 to CB", "lowest byte first".
+    // ERR-5, ERR-6
     if detected && was_quiet {
         for (offset, byte) in (ERROR_ADDRESS..).zip(address.to_le_bytes()) {
             record.set(offset, byte);
@@ -188,8 +181,7 @@ fn report(record: &mut Record, answer: Answer, address: u32) {
     }
 }
 
-/// "Each 'corrected' raises B8 by one, stopping at 255. If it rose and now
-/// equals B9 and C0 bit 2 is set, C1 bit 2 is set." True if it was set.
+/// ERR-1, ERR-2: counts a correction. True if C1 bit 2 was set.
 fn count_correction(record: &mut Record) -> bool {
     let Some(count) = record.at(COUNTER).checked_add(1) else {
         return false;
@@ -198,7 +190,7 @@ fn count_correction(record: &mut Record) -> bool {
     count == record.at(TRIGGER) && detect(record, ERROR_ENABLE_1, ERROR_DETECTION_1, TRIGGER_BIT)
 }
 
-/// Sets a detection bit if its enable bit stands. True if it was set.
+/// Sets a detection bit if its enable bit is set. True if it was set.
 fn detect(record: &mut Record, enables: u8, detections: u8, bit: u8) -> bool {
     if record.at(enables) & bit == 0 {
         return false;

@@ -7,8 +7,8 @@ use crate::refusal::Refusal;
 /// Number of banks.
 pub const BANKS: u8 = 8;
 
-/// Offsets of the listed registers. Where a register stands once for each
-/// bank, the constant is that of bank 0.
+/// Offsets of the listed registers. If there is one register for each bank, the
+/// constant is that of bank 0.
 pub mod offset {
     pub const START: u8 = 0x80;
     pub const START_EXTENDED: u8 = 0x88;
@@ -30,18 +30,17 @@ pub mod offset {
 
 use offset::*;
 
-/// "F2: bit 3 switches memory on."
+/// REG-16
 pub const SWITCH_ON: u8 = 1 << 3;
 
-/// "A record holds 256 bytes, one for each offset." The bytes are public: a
-/// record may be made by hand.
+/// REG-1. The bytes are public, since a record may be made by hand (ON-7).
 #[derive(Clone, Copy, Debug, PartialEq, Eq)]
 pub struct Record {
     pub bytes: [u8; 256],
 }
 
 impl Record {
-    /// "A fresh one is all zero."
+    /// REG-1: a fresh record.
     pub fn fresh() -> Self {
         Record { bytes: [0; 256] }
     }
@@ -56,13 +55,12 @@ impl Record {
         self.bytes[usize::from(offset)] = value;
     }
 
-    /// Memory is on when bit 3 of F2 stands, whatever its other bits are (a
-    /// record made by hand may have some).
+    /// REG-16: memory is on by bit 3 of F2 alone.
     pub fn is_on(&self) -> bool {
         self.at(SWITCH) & SWITCH_ON != 0
     }
 
-    /// "A0: bit n enables bank n."
+    /// REG-7
     pub fn is_enabled(&self, bank: u8) -> bool {
         self.at(BANK_ENABLES) >> bank & 1 == 1
     }
@@ -77,14 +75,12 @@ impl Record {
         self.ten_bits(LAST + bank, LAST_EXTENDED + bank)
     }
 
-    /// "Low eight bits, then two extended bits"; "extended bytes count only
-    /// by their two low bits".
+    /// REG-4, REG-5, REG-6: a number of megabytes.
     fn ten_bits(&self, low: u8, extended: u8) -> u32 {
         u32::from(self.at(low)) | u32::from(self.at(extended) & 3) << 8
     }
 
-    /// "Row codes, two bits a bank: banks 0 to 3 from the low end of F0, 4 to
-    /// 7 of F1"; "row codes 0, 1, 2, 3 mean R = 9, 10, 11, 12 row bits".
+    /// REG-12, REG-13: R, the number of row bits.
     pub fn row_bits(&self, bank: u8) -> u32 {
         let codes = if bank < 4 {
             self.at(ROW_CODES_LOW)
@@ -108,14 +104,14 @@ impl Record {
     pub fn write_register(&mut self, offset: u8, value: u8) -> Result<(), Refusal> {
         self.check_write(offset, value)?;
         match offset {
-            // "Writing a 1 clears that bit."
+            // REG-10
             ERROR_DETECTION_1 | ERROR_DETECTION_2 => self.set(offset, self.at(offset) & !value),
             _ => self.set(offset, value),
         }
         Ok(())
     }
 
-    /// "Lower numbers go first."
+    /// REF-102, REF-104: in the order of their numbers.
     fn check_write(&self, offset: u8, value: u8) -> Result<(), Refusal> {
         if !is_listed(offset) {
             return Err(Refusal::OffsetNotListed);
@@ -129,8 +125,7 @@ impl Record {
         if self.is_on() && is_locked_while_on(offset) {
             return Err(Refusal::LockedWhileOn);
         }
-        // "Only switching on judges the banks"; "writing 8 to F2 when on
-        // checks nothing and is accepted".
+        // ON-4, ON-5: only switching on judges the banks.
         if offset == SWITCH && value == SWITCH_ON && !self.is_on() {
             map::judge(self)?;
         }
@@ -138,7 +133,7 @@ impl Record {
     }
 }
 
-/// The offsets in the document's table of registers.
+/// REG-2: the offsets that have a register.
 pub fn is_listed(offset: u8) -> bool {
     matches!(
         offset,
@@ -159,7 +154,7 @@ pub fn is_extended(offset: u8) -> bool {
     matches!(offset, 0x88..=0x8F | 0x98..=0x9F)
 }
 
-/// Refusal 3: "extended byte above 3; F2 neither 0 nor 8".
+/// REF-3
 fn is_allowed_value(offset: u8, value: u8) -> bool {
     if is_extended(offset) {
         value <= 3
@@ -170,7 +165,7 @@ fn is_allowed_value(offset: u8, value: u8) -> bool {
     }
 }
 
-/// Refusal 4: "write at 80 to A0, F0, F1 while F2 is on".
+/// REF-4
 fn is_locked_while_on(offset: u8) -> bool {
     matches!(
         offset,

@@ -1,49 +1,49 @@
-//! "When a call declines": the eighteen causes and what each returns.
+//! The eighteen refusals (REF-1 to REF-18) and what each returns.
 
-/// A cause for which a call declines. Causes 12 to 14 carry the bank that is
-/// returned beside the number.
+/// Why a call is refused. Refusals 12 to 14 carry the bank that is returned
+/// with the number.
 #[derive(Clone, Copy, Debug, PartialEq, Eq, Hash)]
 pub enum Refusal {
-    /// 1: "register offset not listed".
+    /// REF-1: the offset has no register.
     OffsetNotListed,
-    /// 2: "write at C8 to CB".
+    /// REF-2: the error address cannot be written.
     ReadOnly,
-    /// 3: "extended byte above 3; F2 neither 0 nor 8".
+    /// REF-3: a value that the register does not take.
     BadValue,
-    /// 4: "write at 80 to A0, F0, F1 while F2 is on".
+    /// REF-4: a bank register, while memory is on.
     LockedWhileOn,
-    /// 5: "F2 bit 3 off, or the record would get 11 to 14".
+    /// REF-5: the record is not ready.
     NotSwitchedOn,
-    /// 6: "count 0 or above 8".
+    /// REF-6: a count out of range.
     BadCount,
-    /// 7: "access leaves its doubleword".
+    /// REF-7: past the end of the doubleword.
     LeavesDoubleword,
-    /// 8: "flip bit above 71".
+    /// REF-8: a flip bit out of range.
     BadFlipBit,
-    /// 9: "cell not wholly lent".
+    /// REF-9: not all of the cell is lent.
     CellNotLent,
-    /// 10: "flip with no bank".
+    /// REF-10: a flip selects no bank.
     FlipWithoutBank,
-    /// 11: "switching on, none enabled".
+    /// REF-11: no bank is enabled.
     NoneEnabled,
-    /// 12: "an enabled start above its end".
+    /// REF-12: a bank starts above its last megabyte.
     StartAboveEnd(u8),
-    /// 13: "an enabled bank too long for its rows".
+    /// REF-13: a bank is too long.
     TooLong(u8),
-    /// 14: "an enabled span meets a lower enabled bank's".
+    /// REF-14: two banks share a megabyte.
     MeetsLowerBank(u8),
-    /// 15: "way back: bank above 7 or off".
+    /// REF-15: the way back of no enabled bank.
     NoSuchBank,
-    /// 16: "row or column too large".
+    /// REF-16: the way back of a row or column out of range.
     RowOrColumnTooLarge,
-    /// 17: "no address has the cell".
+    /// REF-17: no address in the span.
     NoAddress,
-    /// 18: "malformed line (program only)".
+    /// REF-18: a malformed line.
     MalformedLine,
 }
 
 impl Refusal {
-    /// The document's number of this cause.
+    /// The number of this refusal.
     pub fn number(self) -> u8 {
         match self {
             Refusal::OffsetNotListed => 1,

@@ -1,10 +1,10 @@
-//! Every example of document 01, marked and unmarked.
+//! The worked examples: EX-1, EX-2, EX-3 to EX-8, EX-9, EX-10 and EX-11.
 
 use model::code::{check_byte, reading, Reading};
 use model::map::{alike, map, way_back, Column, Place, Row};
 use model::{lines, Record, Refusal};
 
-/// "Bank 0: MB 0 to 1, R 9. Bank 1: MB 2 to 4, R 10, so C 9."
+/// EX-3
 fn two_banks() -> Record {
     let mut record = Record::fresh();
     for (offset, value) in [
@@ -39,6 +39,7 @@ fn place(bank: u8, row: u32, column: u32, cell: u32) -> Place {
     }
 }
 
+/// EX-1
 #[test]
 fn check_bytes() {
     assert_eq!(check_byte(&[0; 8]), 0x00);
@@ -48,6 +49,7 @@ fn check_bytes() {
     assert_eq!(check_byte(&[0xFF; 8]), 0xD8);
 }
 
+/// EX-2
 #[test]
 fn syndromes() {
     assert_eq!(reading(0x03), Reading::Uncorrectable);
@@ -56,6 +58,7 @@ fn syndromes() {
     assert_eq!(reading(0x00), Reading::Clean);
 }
 
+/// EX-4, EX-5, EX-6, EX-7
 #[test]
 fn addresses_of_two_banks() {
     let record = two_banks();
@@ -68,6 +71,7 @@ fn addresses_of_two_banks() {
     assert_eq!(map(&record, 0xFFFF_FFFF), Ok(None));
 }
 
+/// EX-8
 #[test]
 fn way_back_in_two_banks() {
     let record = two_banks();
@@ -78,6 +82,7 @@ fn way_back_in_two_banks() {
     assert_eq!(back(0, 1, 1), Ok(0x0000_1008));
 }
 
+/// EX-9
 #[test]
 fn lengths_and_rows() {
     assert!(one_bank(2, 0).is_ok());
@@ -86,6 +91,7 @@ fn lengths_and_rows() {
     assert_eq!(one_bank(129, 3), Err(Refusal::TooLong(0)));
 }
 
+/// ALIKE-2
 #[test]
 fn different_registers_can_be_alike() {
     let narrow = one_bank(1, 0).unwrap();
@@ -95,6 +101,7 @@ fn different_registers_can_be_alike() {
     assert_eq!(alike(&narrow, &two_banks()), Ok(false));
 }
 
+/// EX-10
 #[test]
 fn line_program() {
     let input = "c,90,01\nc,a0,01\nc,f2,08\nw,00000010,8000000000000000\n\
@@ -106,16 +113,17 @@ fn line_program() {
     assert_eq!(String::from_utf8(output).unwrap(), expected);
 }
 
+/// EX-11
 #[test]
 fn slips_of_the_decoder() {
-    // "Reporting at B8 = B9 = 0 before any correction."
+    // EX-11: no report while B8 and B9 are both 0.
     let mut record = two_banks();
     record.write_register(0xC0, 0x04).unwrap();
     let mut cells = vec![0; 18];
     let mut buffer = [0; 8];
     model::memory::read(&mut record, &cells, 0, &mut buffer).unwrap();
     assert_eq!(record.at(0xC1), 0);
-    // "Merging a short write into an uncorrected cell."
+    // EX-11: a short write merges into corrected bytes.
     model::memory::flip(&record, &mut cells, 0, 7).unwrap();
     model::memory::write(&mut record, &mut cells, 1, &[0xAA]).unwrap();
     model::memory::read(&mut record, &cells, 0, &mut buffer).unwrap();

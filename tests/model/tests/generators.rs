@@ -1,4 +1,4 @@
-//! That the generators meet what they are for.
+//! The generators produce the cases that they are meant to produce.
 
 use std::collections::HashSet;
 

@@ -1,5 +1,5 @@
-//! Each refusal once, its order among others, and that it leaves all as it
-//! was.
+//! Each refusal once, its order among the others, and that it leaves everything
+//! as it was.
 
 use model::map::{alike, map, way_back, Column, Row};
 use model::memory::{flip, read, scrub, write};

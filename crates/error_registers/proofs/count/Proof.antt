@@ -5,18 +5,20 @@ use borrow.Author.Needs.{needs}
 use Rattle.error_registers.proofs.count.Statement.{statement}
 use Rattle.error_registers.proofs.count.Tie as tie
 
-byte-requires : tie.Need-byte-requires
-byte-requires c κs = search needs
+cast-corrections : tie.Need-cast-corrections
+cast-corrections c = search needs
 
-returns : tie.Need-returns
-unfolding counted
-returns c = simp (← c .before .byte .ensures, le-ltb (c .before .byte .result) 255 (omega (arith, c .if1 .taken)))
+element-copy-out-corrections : tie.Need-element-copy-out-corrections
+element-copy-out-corrections c = search needs
 
-add-with-byte : tie.Need-add-with-byte
-add-with-byte c = search needs
+add-registers : tie.Need-add-registers
+add-registers c = search needs
 
-with-byte-requires : tie.Need-with-byte-requires
-with-byte-requires c κs = search needs
+cast-registers : tie.Need-cast-registers
+cast-registers c = search needs
+
+element-write-registers : tie.Need-element-write-registers
+element-write-registers c = search needs
 
 is-triggered-requires : tie.Need-is-triggered-requires
 is-triggered-requires c κs = search needs
@@ -24,23 +26,29 @@ is-triggered-requires c κs = search needs
 detect-requires : tie.Need-detect-requires
 detect-requires c κs = search needs
 
+returns : tie.Need-returns
+unfolding counted rose
+returns c = simp (lt-ltb _ _ (c .before .before .before .before .before .if1 .taken), ← c .before .before .before .is-triggered .ensures, c .before .before .if2 .taken, c .detect .ensures)
+
 returns-2 : tie.Need-returns-2
 unfolding counted rose
-returns-2 c = simp (← c .before .before .before .before .before .byte .ensures, lt-ltb _ _ (c .before .before .before .before .if1 .left), ← c .before .before .before .with-byte .ensures, ← c .before .before .is-triggered .ensures, c .before .if2 .taken, c .detect .ensures)
+returns-2 c = simp (lt-ltb _ _ (c .before .before .before .if1 .taken), ← c .before .is-triggered .ensures, c .if2 .left)
 
 returns-3 : tie.Need-returns-3
-unfolding counted rose
-returns-3 c = simp (← c .before .before .before .before .byte .ensures, lt-ltb _ _ (c .before .before .before .if1 .left), ← c .before .before .with-byte .ensures, ← c .before .is-triggered .ensures, c .if2 .left)
+unfolding counted
+returns-3 c = simp (le-ltb _ 255 (c .if1 .left))
 
 pub count-spec : {M : Type 1} → statement M
 count-spec =
     tie.close
     (tie.spec
-    byte-requires
-    returns
-    add-with-byte
-    with-byte-requires
+    cast-corrections
+    element-copy-out-corrections
+    add-registers
+    cast-registers
+    element-write-registers
     is-triggered-requires
     detect-requires
+    returns
     returns-2
     returns-3)

@@ -1,23 +1,22 @@
 use Prim.Native.Nat.{ℕ, _/_, _^_}
 use lib.Bits.{and-mask}
 use lib.Dec.{eqb}
-use mathlib.Core.Path.{ap, _∙_}
+use lib.ListN.{getD}
+use mathlib.Core.Path.{ap}
 use Rattle.error_registers.specs.Errors.{bitSet}
 use borrow.Author.Needs.{needs}
 use Rattle.error_registers.proofs.is_set.Statement.{statement}
 use Rattle.error_registers.proofs.is_set.Tie as tie
 
-byte-requires : tie.Need-byte-requires
-byte-requires c κs = search needs
+element-copy-out-result : tie.Need-element-copy-out-result
+element-copy-out-result c = search needs
 
 shr-result : tie.Need-shr-result
 shr-result c = search needs
 
 returns : tie.Need-returns
 unfolding bitSet
-returns c =
-    let a = c .before .args in
-    ap (λ (x : ℕ). eqb x 1) (and-mask (c .byte .result / 2 ^ a .bit) 1) ∙ rw (c .byte .ensures)
+returns c = let a = c .before .args in ap (λ (x : ℕ). eqb x 1) (and-mask (getD (a .registers .now) (a .offset) 0 / 2 ^ a .bit) 1)
 
 pub is-set-spec : {M : Type 1} → statement M
-is-set-spec = tie.close (tie.spec byte-requires shr-result returns)
+is-set-spec = tie.close (tie.spec element-copy-out-result shr-result returns)

@@ -1,5 +1,3 @@
-use mathlib.Core.Path.{ap}
-use Rattle.registers.specs.declared.Registers.{Registers}
 use Rattle.error_registers.specs.Errors.{reported}
 use borrow.Author.Needs.{needs}
 use Rattle.error_registers.proofs.report.Statement.{statement}
@@ -11,11 +9,32 @@ enum-told c = search needs
 enum-told-2 : tie.Need-enum-told-2
 enum-told-2 c = search needs
 
+count-requires : tie.Need-count-requires
+count-requires c κs = search needs
+
 enum-told-3 : tie.Need-enum-told-3
 enum-told-3 c = search needs
 
-after-requires : tie.Need-after-requires
-after-requires c κs = search needs
+is-set-requires : tie.Need-is-set-requires
+is-set-requires c κs = search needs
+
+detect-requires : tie.Need-detect-requires
+detect-requires c κs = search needs
+
+enum-told-4 : tie.Need-enum-told-4
+enum-told-4 c = search needs
+
+enum-told-5 : tie.Need-enum-told-5
+enum-told-5 c = search needs
+
+is-set-requires-2 : tie.Need-is-set-requires-2
+is-set-requires-2 c κs = search needs
+
+detect-requires-2 : tie.Need-detect-requires-2
+detect-requires-2 c κs = search needs
+
+enum-told-6 : tie.Need-enum-told-6
+enum-told-6 c = search needs
 
 returns : tie.Need-returns
 unfolding reported
@@ -23,14 +42,31 @@ returns c = simp (c .enum-told .given .1)
 
 returns-2 : tie.Need-returns-2
 unfolding reported
-returns-2 c = simp (c .enum-told2 .given .1)
+returns-2 c = simp (c .before .before .enum-told2 .given .1, c .count .ensures)
 
 returns-3 : tie.Need-returns-3
 unfolding reported
-returns-3 c = simp (c .enum-told3 .given .1)
+returns-3 c = simp (c .before .before .before .before .before .enum-told3 .given .1, ← c .before .before .before .is-set .ensures, c .before .before .if1 .taken, c .detect .ensures)
 
 returns-4 : tie.Need-returns-4
-returns-4 c = ap (λ (x : Registers). x .bytes) (c .before .after .ensures)
+unfolding reported
+returns-4 c = simp (c .before .before .before .enum-told3 .given .1, ← c .before .is-set .ensures, c .if1 .left)
+
+returns-5 : tie.Need-returns-5
+unfolding reported
+returns-5 c = simp (c .enum-told4 .given .1)
+
+returns-6 : tie.Need-returns-6
+unfolding reported
+returns-6 c = simp (c .before .before .before .before .before .enum-told5 .given .1, ← c .before .before .before .is-set2 .ensures, c .before .before .if2 .taken, c .detect2 .ensures)
+
+returns-7 : tie.Need-returns-7
+unfolding reported
+returns-7 c = simp (c .before .before .before .enum-told5 .given .1, ← c .before .is-set2 .ensures, c .if2 .left)
+
+returns-8 : tie.Need-returns-8
+unfolding reported
+returns-8 c = simp (c .enum-told6 .given .1)
 
 pub report-spec : {M : Type 1} → statement M
 report-spec =
@@ -38,9 +74,20 @@ report-spec =
     (tie.spec
     enum-told
     enum-told-2
+    count-requires
     enum-told-3
-    after-requires
+    is-set-requires
+    detect-requires
+    enum-told-4
+    enum-told-5
+    is-set-requires-2
+    detect-requires-2
+    enum-told-6
     returns
     returns-2
     returns-3
-    returns-4)
+    returns-4
+    returns-5
+    returns-6
+    returns-7
+    returns-8)

@@ -9,18 +9,18 @@ use Rattle.parser.proofs.by_letter.Tie as tie
 shared-slice-read-letter : tie.Need-shared-slice-read-letter
 shared-slice-read-letter c = search needs
 
-parse-set-requires : tie.Need-parse-set-requires
-parse-set-requires c κs = search needs
+parse-register-write-requires : tie.Need-parse-register-write-requires
+parse-register-write-requires c κs = search needs
 
 bare-requires : tie.Need-bare-requires
 bare-requires c κs = search needs
 
 returns : tie.Need-returns
 unfolding byLetter
-returns c = let l = getD (c .before .before .before .before .before .args .line .now) 0 0 in (c .bare .ensures .0 ∙ rw (eq-eqb l 0x63 (c .before .before .if1 .taken)) (c .before .parse-set .ensures), c .bare .ensures .1)
+returns c = let l = getD (c .before .before .before .before .before .args .line .now) 0 0 in (c .bare .ensures .0 ∙ rw (eq-eqb l 0x63 (c .before .before .if1 .taken)) (c .before .parse-register-write .ensures), c .bare .ensures .1)
 
-parse-get-requires : tie.Need-parse-get-requires
-parse-get-requires c κs = search needs
+parse-register-read-requires : tie.Need-parse-register-read-requires
+parse-register-read-requires c κs = search needs
 
 bare-requires-2 : tie.Need-bare-requires-2
 bare-requires-2 c κs = search needs
@@ -29,7 +29,7 @@ returns-2 : tie.Need-returns-2
 unfolding byLetter
 returns-2 c =
     let l = getD (c .before .before .before .before .before .before .args .line .now) 0 0 in
-    (c .bare2 .ensures .0 ∙ rw (ne-eqb l 0x63 (c .before .before .before .if1 .left), eq-eqb l 0x67 (c .before .before .if2 .taken)) (c .before .parse-get .ensures), c .bare2 .ensures .1)
+    (c .bare2 .ensures .0 ∙ rw (ne-eqb l 0x63 (c .before .before .before .if1 .left), eq-eqb l 0x67 (c .before .before .if2 .taken)) (c .before .parse-register-read .ensures), c .bare2 .ensures .1)
 
 parse-write-requires : tie.Need-parse-write-requires
 parse-write-requires c κs = search needs
@@ -90,10 +90,10 @@ by-letter-spec =
     tie.close
     (tie.spec
     shared-slice-read-letter
-    parse-set-requires
+    parse-register-write-requires
     bare-requires
     returns
-    parse-get-requires
+    parse-register-read-requires
     bare-requires-2
     returns-2
     parse-write-requires

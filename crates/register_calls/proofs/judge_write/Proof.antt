@@ -1,3 +1,6 @@
+use mathlib.Core.Path.{sym, _∙_}
+use borrow.Author.Tests.{not-false}
+use Rattle.register_calls.proofs.OffsetLaws.{listed-below}
 use Rattle.register_calls.specs.Calls.{declined, switchesOn}
 use borrow.Author.Needs.{needs}
 use Rattle.register_calls.proofs.judge_write.Statement.{statement}
@@ -9,6 +12,9 @@ is-listed-requires c κs = search needs
 returns : tie.Need-returns
 unfolding declined
 returns c = simp (← c .before .is-listed .ensures, c .if1 .taken)
+
+cast-o : tie.Need-cast-o
+cast-o c = record { fits = listed-below (c .before .before .args .offset) (sym (c .before .is-listed .ensures) ∙ not-false (c .before .is-listed .result) (c .if1 .left)) }
 
 is-read-only-requires : tie.Need-is-read-only-requires
 is-read-only-requires c κs = search needs
@@ -51,6 +57,7 @@ judge-write-spec =
     (tie.spec
     is-listed-requires
     returns
+    cast-o
     is-read-only-requires
     returns-2
     is-bad-value-requires

@@ -1,18 +1,16 @@
-//! The examples of document 01 and the banks at the ends of the eight low
-//! bits, with the document's own values. Library and model are both asked:
-//! two that are wrong in the same way don't pass.
+//! The worked examples (EX-1 to EX-11) with the values of the specification,
+//! and banks that end near the limit of eight bits. Library and model are both
+//! asked, so that two that are wrong in the same way don't pass.
 
 use model::lines;
 use model::{Call, Record};
 
-use crate::answers::{ACCEPTED, FLIPPED, NO_BANK};
+use crate::answers::{ACCEPTED, CLEAN, CORRECTED, NO_BANK, STORED, UNCORRECTABLE};
 use crate::busline::{Busline, Feed};
 use crate::request::{Given, Request, State};
 
-const CLEAN: u32 = ACCEPTED;
-const CORRECTED: u32 = ACCEPTED + 1;
-const UNCORRECTABLE: u32 = ACCEPTED + 2;
-const STORED: u32 = ACCEPTED + 3;
+/// Of an accepted flip.
+const FLIPPED: u32 = ACCEPTED;
 
 /// A bank alone, by its start, last MB and row code, with the places of its
 /// first and last byte.
@@ -24,7 +22,7 @@ struct End {
     last: [u32; 3],
 }
 
-/// Row, column and cell number, worked out by hand from the document.
+/// Row, column and cell number, worked out by hand.
 const ENDS: [End; 9] = [
     end(255, 255, 0, [0, 0, 0], [511, 255, 131_071]),
     end(255, 256, 0, [256, 0, 131_072], [255, 511, 131_071]),
@@ -47,7 +45,7 @@ const fn end(start_mb: u32, last_mb: u32, row_code: u8, first: [u32; 3], last: [
     }
 }
 
-/// The document's example of the line program.
+/// EX-10: the example of the line program.
 const LINES: (&str, &str) = (
     "c,90,01\nc,a0,01\nc,f2,08\nw,00000010,8000000000000000\nf,00000010,2\n\
      r,00000010,8\ng,b8\nr,00200000,1\nr,00000007,2\n",
@@ -88,7 +86,7 @@ impl Sides {
         Sides { library, model }
     }
 
-    /// A fresh record with these bytes written, switched on last if need be.
+    /// A fresh record with these registers written, F2 last.
     fn with(lent_cells: usize, writes: &[(u8, u8)]) -> Result<Self, String> {
         let mut sides = Sides::new(lent_cells);
         for &(offset, value) in writes {
@@ -97,7 +95,7 @@ impl Sides {
         Ok(sides)
     }
 
-    /// Asks both sides and holds what each gives to what is expected.
+    /// Asks both sides and checks each answer against what is expected.
     fn ask(&mut self, request: &Request, expected: impl Fn(&Given) -> bool) -> Result<(), String> {
         let from_library = self.library.ask_library(request);
         let from_model = self.model.ask_model(request);
@@ -112,33 +110,36 @@ impl Sides {
         }
     }
 
-    fn answers(&mut self, request: Request, answer: u32) -> Result<(), String> {
-        self.ask(&request, |given| given.answer == answer)
+    fn goes(&mut self, request: Request, way: u32) -> Result<(), String> {
+        self.ask(&request, |given| given.way(&request) == way)
     }
 
     fn set(&mut self, offset: u8, value: u8, answer: u32) -> Result<(), String> {
         let call = Call::WriteRegister { offset, value };
-        self.answers(Request::Listed(call), answer)
+        self.goes(Request::Listed(call), answer)
     }
 
     fn get(&mut self, offset: u8, value: u8) -> Result<(), String> {
         let call = Call::ReadRegister { offset };
-        self.answers(Request::Listed(call), ACCEPTED + u32::from(value))
+        self.goes(Request::Listed(call), ACCEPTED + u32::from(value))
     }
 
-    fn place(&mut self, address: u32, place: [u32; 4]) -> Result<(), String> {
+    fn place(&mut self, address: u32, [bank, row, column, cell]: [u32; 4]) -> Result<(), String> {
+        let place = [1, bank, row, column, cell];
         self.ask(&Request::Map(address), |given| {
-            given.answer == ACCEPTED && given.words == place
+            given.result == 0 && given.numbers == place
         })
     }
 
     fn no_bank(&mut self, address: u32) -> Result<(), String> {
-        self.answers(Request::Map(address), NO_BANK)
+        self.ask(&Request::Map(address), |given| {
+            given.result == 0 && given.numbers == [0; 5]
+        })
     }
 
-    fn back(&mut self, bank: u8, row: u32, column: u32, address: u32) -> Result<(), String> {
+    fn back(&mut self, bank: u32, row: u32, column: u32, address: u32) -> Result<(), String> {
         self.ask(&Request::WayBack { bank, row, column }, |given| {
-            given.answer == ACCEPTED && given.words[0] == address
+            given.result == 0 && given.numbers[0] == address
         })
     }
 
@@ -146,21 +147,21 @@ impl Sides {
         let count = bytes.len();
         let request = Request::Listed(Call::Read { address, count });
         self.ask(&request, |given| {
-            given.answer == answer && given.buffer.starts_with(bytes)
+            given.way(&request) == answer && given.buffer.starts_with(bytes)
         })
     }
 
     fn write(&mut self, address: u32, bytes: &[u8], answer: u32) -> Result<(), String> {
         let bytes = bytes.to_vec();
-        self.answers(Request::Listed(Call::Write { address, bytes }), answer)
+        self.goes(Request::Listed(Call::Write { address, bytes }), answer)
     }
 
     fn flip(&mut self, address: u32, bit: u8, answer: u32) -> Result<(), String> {
-        self.answers(Request::Listed(Call::Flip { address, bit }), answer)
+        self.goes(Request::Listed(Call::Flip { address, bit }), answer)
     }
 
     fn scrub(&mut self, address: u32, answer: u32) -> Result<(), String> {
-        self.answers(Request::Listed(Call::Scrub { address }), answer)
+        self.goes(Request::Listed(Call::Scrub { address }), answer)
     }
 
     /// The check byte of cell 0; the sides are known to be the same.
@@ -174,7 +175,7 @@ impl Sides {
     }
 }
 
-/// "Bank 0: MB 0 to 1, R 9. Bank 1: MB 2 to 4, R 10, so C 9."
+/// EX-3
 fn two_banks() -> Result<Sides, String> {
     let writes = [
         (0x90, 1),
@@ -207,21 +208,48 @@ pub fn places_and_lengths() -> Result<String, String> {
         row: 256,
         column: 0,
     };
-    sides.answers(nowhere, 17)?;
-    // "Writing 8 to F2 when on checks nothing and is accepted."
+    sides.goes(nowhere, 17)?;
+    // ON-5
     sides.set(0xF2, 8, ACCEPTED)?;
-    // "R 9: 2 MB fits, 3 gets 13; R 12: 128 fits, 129 doesn't."
+    // EX-9, ON-3
     one_bank(2, 0)?.set(0xF2, 8, ACCEPTED)?;
     one_bank(3, 0)?.set(0xF2, 8, 13)?;
     one_bank(128, 3)?.set(0xF2, 8, ACCEPTED)?;
     one_bank(129, 3)?.set(0xF2, 8, 13)?;
     Sides::new(0).set(0xF2, 8, 11)?;
     different_registers_can_be_alike()?;
-    Ok("document 01".to_string())
+    Ok("the specification".to_string())
 }
 
-/// "Different registers can be alike": one MB has the same places with nine
-/// and with ten row bits if it is at an even MB.
+/// The interface's own examples: numbers that would be in range if they were
+/// cut to a byte, and the number of cells.
+pub fn wide_numbers_and_cells() -> Result<String, String> {
+    let mut sides = two_banks()?;
+    let flip = Request::WideFlip {
+        address: 0,
+        bit: 261,
+    };
+    sides.goes(flip, 8)?;
+    sides.goes(Request::WideGet { offset: 0x180 }, 1)?;
+    let set = Request::WideSet {
+        offset: 0x1B9,
+        value: 0,
+    };
+    sides.goes(set, 1)?;
+    let back = Request::WayBack {
+        bank: 256,
+        row: 0,
+        column: 0,
+    };
+    sides.goes(back, 15)?;
+    sides.goes(Request::CellCount, ACCEPTED + 262_144 + 524_288)?;
+    sides.set(0xF2, 0, ACCEPTED)?;
+    sides.goes(Request::CellCount, 5)?;
+    Ok("the interface's own".to_string())
+}
+
+/// ALIKE-2: one MB is mapped alike with nine and with ten row bits if it is at
+/// an even MB.
 fn different_registers_can_be_alike() -> Result<(), String> {
     let on = |length, row_code| {
         let mut sides = one_bank(length, row_code)?;
@@ -229,7 +257,7 @@ fn different_registers_can_be_alike() -> Result<(), String> {
         Ok::<Sides, String>(sides)
     };
     let ask = |first: &mut Sides, second: &Sides, answer| {
-        first.answers(Request::Alike(Box::new(second.model.record)), answer)
+        first.goes(Request::Alike(Box::new(second.model.record)), answer)
     };
     ask(&mut on(1, 0)?, &on(1, 1)?, ACCEPTED + 1)?;
     ask(&mut on(1, 0)?, &on(2, 0)?, ACCEPTED)?;
@@ -242,7 +270,7 @@ pub fn memory_and_errors() -> Result<String, String> {
     short_write_into_a_corrected_cell()?;
     reports()?;
     counter_stops()?;
-    Ok("document 01".to_string())
+    Ok("the specification".to_string())
 }
 
 fn check_bytes() -> Result<(), String> {
@@ -262,8 +290,8 @@ fn check_bytes() -> Result<(), String> {
     Ok(())
 }
 
-/// Flips of check bits alone make any syndrome: "03 uncorrectable, 40 flip
-/// bit 70, 1F data bit 56", the top bit of byte 7.
+/// EX-2. Flips of check bits alone make any syndrome; data bit 56 is the top
+/// bit of byte 7.
 fn syndromes() -> Result<(), String> {
     for (syndrome, answer, byte_7) in [
         (0x00, CLEAN, 0),
@@ -280,24 +308,24 @@ fn syndromes() -> Result<(), String> {
     Ok(())
 }
 
-/// "Merging a short write into an uncorrected cell" is a slip.
+/// EX-11: a short write merges into corrected bytes (MEM-5).
 fn short_write_into_a_corrected_cell() -> Result<(), String> {
     let mut sides = two_banks()?;
     sides.flip(3, 7, FLIPPED)?;
     sides.write(1, &[0xAA], CORRECTED)?;
     sides.read(0, CLEAN, &[0, 0xAA, 0, 0, 0, 0, 0, 0])?;
-    // "on uncorrectable, which is then the answer, the cell stays"
+    // MEM-6
     sides.flip(0, 0, FLIPPED)?;
     sides.flip(0, 1, FLIPPED)?;
     sides.write(2, &[0xBB], UNCORRECTABLE)?;
     sides.read(0, UNCORRECTABLE, &[0xC0, 0xAA, 0, 0, 0, 0, 0, 0])?;
-    // "Write of 8: stores data and check, looks at nothing old"
+    // MEM-4
     sides.write(0, &[1; 8], STORED)?;
     sides.read(0, CLEAN, &[1; 8])
 }
 
-/// "Reporting at B8 = B9 = 0 before any correction" is a slip; the address
-/// goes to C8 to CB lowest byte first, and only to the first report.
+/// EX-11: nothing is reported while B8 and B9 are both 0 (ERR-2). The address
+/// of the first report alone is stored, lowest byte first (ERR-5).
 fn reports() -> Result<(), String> {
     let mut sides = two_banks()?;
     sides.set(0xC0, 0xFF, ACCEPTED)?;
@@ -313,7 +341,7 @@ fn reports() -> Result<(), String> {
     sides.set(0xC1, 0xFF, ACCEPTED)?;
     sides.set(0xB9, 2, ACCEPTED)?;
     sides.flip(8, 13, FLIPPED)?;
-    // "The cell is not changed": a second read corrects again.
+    // MEM-3: the cell stays, so a second read corrects again.
     sides.read(8, CORRECTED, &[0; 8])?;
     sides.get(0xC1, 0)?;
     sides.read(9, CORRECTED, &[0; 2])?;
@@ -343,11 +371,10 @@ fn counter_stops() -> Result<(), String> {
 
 pub fn lines(busline: &Busline) -> Result<String, String> {
     check_lines(busline, LINES)?;
-    Ok("document 01".to_string())
+    Ok("the specification".to_string())
 }
 
-/// "Ending at byte + 1 in eight bits" is a slip: banks that end at MB 255,
-/// 256 and 1023.
+/// EX-11, REG-5: banks that end at MB 255, 256 and 1023.
 pub fn bank_ends(busline: &Busline) -> Result<String, String> {
     for end in &ENDS {
         for bank in [0, 5] {
@@ -385,7 +412,7 @@ fn check_end(end: &End, bank: u8) -> Result<(), String> {
     let last = ((end.last_mb + 1) << 20) - 1;
     for (address, [row, column, cell]) in [(first, end.first), (last, end.last)] {
         sides.place(address, [u32::from(bank), row, column, cell])?;
-        sides.back(bank, row, column, address & !7)?;
+        sides.back(u32::from(bank), row, column, address & !7)?;
     }
     sides.no_bank(first - 1)?;
     sides.no_bank(last + 1)?;

@@ -1,5 +1,5 @@
-//! Lists under demand 3's premise: the library's answers against the flat
-//! machine, which has no cells.
+//! DEM-3: lists that meet the condition (LIST-6). The library's answers against
+//! the flat machine, which has no cells.
 
 use model::code::CELL_BYTES;
 use model::flat::FlatMachine;
@@ -8,7 +8,7 @@ use model::map;
 use model::record::{offset, SWITCH_ON};
 use model::{Call, Outcome, Record};
 
-use crate::answers::{self, ACCEPTED, FLIPPED};
+use crate::answers::{self, ACCEPTED};
 use crate::case::{ways, Met};
 use crate::coverage::Coverage;
 use crate::draw;
@@ -22,10 +22,10 @@ const CALLS: usize = 400;
 /// All cells are lent; those never touched take no memory.
 const MOST_CELLS: u32 = 1 << 24;
 
-/// What is compared of a memory call: the answer, and a read's bytes.
+/// What is compared of a memory call: the way it went, and a read's bytes.
 #[derive(PartialEq, Eq)]
 struct Compared {
-    answer: u32,
+    way: u32,
     bytes: Vec<u8>,
 }
 
@@ -36,7 +36,7 @@ pub fn against_flat_machine(rng: &mut Rng) -> Result<String, String> {
         let on = switched_on(&off).map_err(|_| smallest_refused(&off))?;
         let calls = lists::list(rng, &on, CALLS);
         if !lists::keeps_condition(&on, &calls) {
-            return Err("a list that breaks demand 3's premise was drawn".to_string());
+            return Err("a list that breaks the condition (LIST-6) was drawn".to_string());
         }
         if difference(&off, &calls, &mut coverage).is_some() {
             return Err(smallest(&off, &calls));
@@ -46,9 +46,8 @@ pub fn against_flat_machine(rng: &mut Rng) -> Result<String, String> {
     Ok(format!("{LISTS} lists, {CALLS} calls each"))
 }
 
-/// "A list of demand 3 starts from any record that a write of 8 to F2,
-/// accepted while memory was off, has just returned": also from one made by
-/// hand, with any error registers and any bits that don't count.
+/// LIST-2: any record that can be switched on, also a hand-made one, with any
+/// error registers and any bits that don't count.
 fn record_that_is_off(rng: &mut Rng) -> Record {
     let draft = setups::accepted_draft(rng, MOST_CELLS);
     let mut record = if rng.percent(60) {
@@ -68,13 +67,13 @@ fn record_that_is_off(rng: &mut Rng) -> Record {
 /// The library's own write of 8 to F2, or its answer if that is a refusal.
 fn switched_on(off: &Record) -> Result<Record, u32> {
     let mut record = *off;
-    match library::register_write(&mut record, offset::SWITCH, SWITCH_ON) {
-        ACCEPTED => Ok(record),
+    match library::register_write(&mut record, offset::SWITCH.into(), SWITCH_ON) {
+        0 => Ok(record),
         refused => Err(refused),
     }
 }
 
-/// Of a record that the model accepts and the library does not.
+/// For a record that the model accepts and the library does not.
 fn smallest_refused(off: &Record) -> String {
     let mut small = *off;
     let bytes = shrink::zeroed(&Budget::new(), off.bytes.to_vec(), |bytes| {
@@ -82,15 +81,15 @@ fn smallest_refused(off: &Record) -> String {
         map::judge(&small).is_ok() && switched_on(&small).is_err()
     });
     small.bytes.copy_from_slice(&bytes);
-    let answer = switched_on(&small).err().unwrap_or(ACCEPTED);
+    let way = switched_on(&small).err().unwrap_or(ACCEPTED);
     format!(
         "record {}, switching on: {} / accepted 0",
         nonzero(&bytes),
-        answers::shown(answer)
+        answers::shown(way)
     )
 }
 
-/// Runs a list on both; the first call at which they differ, and in what.
+/// Runs a list on both; the first call at which they differ, and how.
 fn difference(
     off: &Record,
     calls: &[Call],
@@ -105,7 +104,7 @@ fn difference(
             // A register call: it must only leave the memory calls alone.
             continue;
         };
-        coverage.meet((kind(call), from_flat.answer));
+        coverage.meet((kind(call), from_flat.way));
         if from_library != from_flat {
             let text = format!("{} / {}", shown(&from_library), shown(&from_flat));
             return Some((index, text));
@@ -115,30 +114,29 @@ fn difference(
 }
 
 fn from_library(library: &mut State, call: &Call) -> Compared {
-    let mut given = library.ask_library(&Request::Listed(call.clone()));
-    let accepted_read = matches!(call, Call::Read { .. }) && given.answer >= ACCEPTED;
+    let request = Request::Listed(call.clone());
+    let mut given = library.ask_library(&request);
+    let way = given.way(&request);
+    let accepted_read = matches!(call, Call::Read { .. }) && way >= ACCEPTED;
     let bytes = if accepted_read {
         given.lent_buffer().to_vec()
     } else {
         Vec::new()
     };
-    Compared {
-        answer: given.answer,
-        bytes,
-    }
+    Compared { way, bytes }
 }
 
 fn from_flat(outcome: Outcome) -> Compared {
-    let (answer, bytes) = match outcome {
+    let (way, bytes) = match outcome {
         Outcome::Refused(refusal) => (answers::of_refusal(refusal), Vec::new()),
-        Outcome::Answered(answer) => (answers::of_memory(Ok(answer)), Vec::new()),
-        Outcome::Read(answer, bytes) => (answers::of_memory(Ok(answer)), bytes),
-        Outcome::Flipped => (FLIPPED, Vec::new()),
+        Outcome::Answered(answer) => (answers::way_of_memory(Ok(answer)), Vec::new()),
+        Outcome::Read(answer, bytes) => (answers::way_of_memory(Ok(answer)), bytes),
+        Outcome::Flipped => (ACCEPTED, Vec::new()),
     };
-    Compared { answer, bytes }
+    Compared { way, bytes }
 }
 
-/// Fewer calls that keep the premise, then a record with more zeros.
+/// Fewer calls that still meet the condition, then a record with more zeros.
 fn smallest(off: &Record, calls: &[Call]) -> String {
     let budget = Budget::new();
     let fails = |off: &Record, calls: &[Call]| {
@@ -168,11 +166,7 @@ fn smallest(off: &Record, calls: &[Call]) -> String {
 }
 
 fn shown(compared: &Compared) -> String {
-    format!(
-        "{} {}",
-        answers::shown(compared.answer),
-        hex(&compared.bytes)
-    )
+    format!("{} {}", answers::shown(compared.way), hex(&compared.bytes))
 }
 
 fn kind(call: &Call) -> &'static str {
@@ -185,10 +179,10 @@ fn kind(call: &Call) -> &'static str {
     }
 }
 
-/// Under the premise nothing is uncorrectable, and every cell is lent.
+/// Under the condition nothing is uncorrectable, and every cell is lent.
 fn wanted() -> impl Iterator<Item = Met> {
-    ways("read", &[0, 1, 4], &[6, 7])
-        .chain(ways("write", &[0, 1, 3, 4], &[6, 7]))
-        .chain(ways("scrub", &[0, 1, 4], &[]))
-        .chain(ways("flip", &[5], &[8, 10]))
+    ways("read", &[1, 2, 5], &[6, 7])
+        .chain(ways("write", &[1, 2, 4, 5], &[6, 7]))
+        .chain(ways("scrub", &[1, 2, 5], &[]))
+        .chain(ways("flip", &[0], &[8, 10]))
 }

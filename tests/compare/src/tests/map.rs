@@ -4,7 +4,7 @@ use model::gen::{setups, Rng};
 use model::map::{self, Layout};
 use model::Record;
 
-use crate::answers;
+use crate::answers::{self, ACCEPTED};
 use crate::case::{ways, Case, Met};
 use crate::coverage::Coverage;
 use crate::draw;
@@ -29,8 +29,19 @@ pub fn addresses(rng: &mut Rng) -> Result<String, String> {
         let requests = (0..CALLS).map(request).collect();
         check(record, requests, &mut coverage)?;
     }
-    coverage.check(ways("map", &[0, 4], &[5]))?;
+    coverage.check(ways("map", &[0, 1], &[5]))?;
     Ok(format!("{RECORDS} records, {CALLS} addresses each"))
+}
+
+/// The number of cells of every kind of record.
+pub fn cell_counts(rng: &mut Rng) -> Result<String, String> {
+    let mut coverage = Coverage::new();
+    for _ in 0..RECORDS {
+        let record = draw::record(rng);
+        check(record, vec![Request::CellCount], &mut coverage)?;
+    }
+    coverage.check(ways("count", &[0], &[5]))?;
+    Ok(format!("{RECORDS} records"))
 }
 
 /// Places that the map gave, places near the limits, and any others.
@@ -43,7 +54,8 @@ pub fn way_back(rng: &mut Rng) -> Result<String, String> {
         let requests = (0..CALLS).map(request).collect();
         check(record, requests, &mut coverage)?;
     }
-    coverage.check(ways("way back", &[0], &[5, 15, 16, 17]))?;
+    let wide = ways("wide way back", &[], &[5, 15]);
+    coverage.check(ways("way back", &[0], &[5, 15, 16, 17]).chain(wide))?;
     Ok(format!("{RECORDS} records, {CALLS} places each"))
 }
 
@@ -65,8 +77,15 @@ pub fn alike_exhaustive(rng: &mut Rng) -> Result<String, String> {
     for _ in 0..SMALL_PAIRS {
         let first = setups::small(rng, SMALL_END);
         let second = close_record(rng, &first);
-        let library = library::alike(&first, &second);
-        let model = answers::of_result(map::alike_exhaustive(&first, &second).map(u32::from));
+        let mut alike = [answers::UNFILLED];
+        let library = match library::alike(&first, &second, &mut alike) {
+            0 => ACCEPTED + alike[0],
+            refused => refused,
+        };
+        let model = match map::alike_exhaustive(&first, &second) {
+            Ok(alike) => ACCEPTED + u32::from(alike),
+            Err(refusal) => answers::of_refusal(refusal),
+        };
         coverage.meet(("alike", model));
         if library != model {
             return Err(format!(
@@ -101,22 +120,31 @@ fn place(rng: &mut Rng, record: &Record, layout: Option<&Layout>) -> Request {
         let address = draw::address(rng, layout);
         if let Ok(Some(place)) = map::map(record, address) {
             return Request::WayBack {
-                bank: place.bank,
+                bank: u32::from(place.bank) + wide(rng),
                 row: place.row.0,
                 column: place.column.0,
             };
         }
     }
     let bank = match rng.below(8) {
-        0 => rng.byte(),
+        0 => u32::from(rng.byte()),
         1 => 8,
-        _ => rng.below(8) as u8,
+        2 => rng.below(8) + wide(rng),
+        _ => rng.below(8),
     };
     Request::WayBack {
         bank,
         row: part_of_place(rng),
         column: part_of_place(rng),
     }
+}
+
+/// Now and then what a byte would drop.
+fn wide(rng: &mut Rng) -> u32 {
+    if rng.percent(90) {
+        return 0;
+    }
+    1 << (8 + rng.below(24))
 }
 
 /// A row or column: near a power of two that may be its limit, or any number.
@@ -149,7 +177,7 @@ fn pair(rng: &mut Rng) -> (Record, Record) {
     }
 }
 
-/// A record that is close to an accepted one, so that being alike is open.
+/// A record close to an accepted one, so that it may or may not be alike.
 fn close_record(rng: &mut Rng, record: &Record) -> Record {
     match rng.below(4) {
         0 => draw::harmless_change(rng, record),

@@ -26,8 +26,8 @@ const FLIP_CASES: usize = 40;
 /// How often a record is drawn again because no address has a lent cell.
 const REDRAWS: usize = 20;
 
-/// Few cells lent, so that most calls meet the same ones again; often the
-/// last one is not wholly lent.
+/// Few cells are lent, so that most calls hit the same ones again; the last one
+/// is often only partly lent.
 pub fn few_cells(rng: &mut Rng) -> Result<String, String> {
     let mut coverage = Coverage::new();
     for _ in 0..CASES {
@@ -43,7 +43,7 @@ pub fn two_banks(rng: &mut Rng) -> Result<String, String> {
     for _ in 0..TWO_BANK_CASES {
         two_bank_case(rng).check(&mut coverage)?;
     }
-    coverage.check(ways("read", &[0, 1, 2, 4], &[9]))?;
+    coverage.check(ways("read", &[1, 2, 3, 5], &[9]))?;
     Ok(format!(
         "{TWO_BANK_CASES} records and cells, {TWO_BANK_CALLS} calls each"
     ))
@@ -66,18 +66,19 @@ pub fn every_flip(rng: &mut Rng) -> Result<String, String> {
             case.check(&mut coverage)?;
         }
     }
-    coverage.check(ways("scrub", &[0, 1, 2], &[]))?;
+    coverage.check(ways("scrub", &[1, 2, 3], &[]))?;
     Ok(format!("{FLIP_CASES} records, each flip bit"))
 }
 
-fn all_ways() -> impl Iterator<Item = Met> {
-    ways("read", &[0, 1, 2, 4], &[5, 6, 7, 9])
-        .chain(ways("write", &[0, 1, 2, 3, 4], &[5, 6, 7, 9]))
-        .chain(ways("scrub", &[0, 1, 2, 4], &[5, 9]))
-        .chain(ways("flip", &[5], &[5, 8, 9, 10]))
+pub fn all_ways() -> impl Iterator<Item = Met> {
+    ways("read", &[1, 2, 3, 5], &[5, 6, 7, 9])
+        .chain(ways("write", &[1, 2, 3, 4, 5], &[5, 6, 7, 9]))
+        .chain(ways("scrub", &[1, 2, 3, 5], &[5, 9]))
+        .chain(ways("flip", &[0], &[5, 8, 9, 10]))
+        .chain(ways("wide flip", &[], &[5, 8]))
 }
 
-fn few_cells_case(rng: &mut Rng) -> Case {
+pub fn few_cells_case(rng: &mut Rng) -> Case {
     let lent = rng.below(MOST_CELLS + 1);
     // The cells at and past the end of what is lent are asked for too.
     let numbers: Vec<u32> = (0..lent + 2).collect();
@@ -148,7 +149,7 @@ fn cells(rng: &mut Rng, count: u32) -> Vec<u8> {
     (0..count).flat_map(|_| cell(rng)).collect()
 }
 
-/// Zero, whole, with one or two bits turned over, or any nine bytes.
+/// Zero, valid, with one or two bits inverted, or any nine bytes.
 fn cell(rng: &mut Rng) -> [u8; CELL_BYTES] {
     let mut cell = [0; CELL_BYTES];
     cell.fill_with(|| rng.byte());
@@ -170,8 +171,23 @@ fn cell(rng: &mut Rng) -> [u8; CELL_BYTES] {
 fn requests(rng: &mut Rng, record: &Record, hot: &[u32], count: usize) -> Vec<Request> {
     let layout = map::judge(record).ok();
     (0..count)
-        .map(|_| Request::Listed(call(rng, layout.as_ref(), hot)))
+        .map(|_| {
+            let call = call(rng, layout.as_ref(), hot);
+            widened(rng, call)
+        })
         .collect()
+}
+
+/// Now and then a flip of a bit that would be in range if it were cut to a
+/// byte.
+fn widened(rng: &mut Rng, call: Call) -> Request {
+    match call {
+        Call::Flip { address, bit } if rng.percent(5) => Request::WideFlip {
+            address,
+            bit: u32::from(bit) + (1 << (8 + rng.below(24))),
+        },
+        call => Request::Listed(call),
+    }
 }
 
 fn call(rng: &mut Rng, layout: Option<&Layout>, hot: &[u32]) -> Call {
@@ -250,8 +266,8 @@ fn error_register_call(rng: &mut Rng) -> Call {
     }
 }
 
-/// Random data, one flip, every kind of look; then a second flip that is not
-/// put right, and the same looks.
+/// Random data, one flip, every kind of access; then a second flip, which
+/// cannot be corrected, and the same accesses.
 fn flip_requests(rng: &mut Rng, address: u32, bit: u8) -> Vec<Request> {
     let other = (bit + 1 + rng.below(u32::from(FLIP_BITS) - 1) as u8) % FLIP_BITS;
     let store = Call::Write {

@@ -36,7 +36,8 @@ pub fn random_calls(rng: &mut Rng) -> Result<String, String> {
     let set = ways("set", &[0], &[1, 2, 3, 4, 11, 12, 13, 14]);
     let get = ways("get", &[0], &[1]);
     let judge = ways("judge", &[0], &[11, 12, 13, 14]);
-    coverage.check(set.chain(get).chain(judge))?;
+    let wide = ways("wide get", &[], &[1]).chain(ways("wide set", &[], &[1]));
+    coverage.check(set.chain(get).chain(judge).chain(wide))?;
     Ok(format!("{RECORDS} records, {WRITES} calls each"))
 }
 
@@ -76,14 +77,27 @@ fn fresh_is_fresh() -> Result<(), String> {
 fn register_call(rng: &mut Rng) -> Request {
     match rng.below(20) {
         0 => Request::Judge,
-        1..=3 => get(rng.byte()),
-        // Switching is what judges the banks: often enough in both ways.
+        1 => wide(rng),
+        2 | 3 => get(rng.byte()),
+        // Switching on judges the banks; both outcomes must be frequent enough.
         4 | 5 => set(offset::SWITCH, 8),
         6 | 7 => set(offset::SWITCH, 0),
         _ => {
             let place = place(rng);
             set(place, value(rng, place))
         }
+    }
+}
+
+/// An offset that would be listed if it were cut to a byte.
+fn wide(rng: &mut Rng) -> Request {
+    let place = place(rng);
+    let offset = u32::from(place) + (1 << (8 + rng.below(24)));
+    if rng.percent(50) {
+        Request::WideGet { offset }
+    } else {
+        let value = value(rng, place);
+        Request::WideSet { offset, value }
     }
 }
 

@@ -18,8 +18,8 @@ const SHORT_SCRIPTS: usize = 60;
 /// The bytes that lines are made of, and some that they are not.
 const ALPHABET: &[u8] = b"cgwrfs,,,0123456789abcdef\n\nAF\r\0 \t\xFF";
 
-/// What every output line of accepted, refused and malformed lines begins
-/// with; the random scripts must meet each.
+/// The start of every output line that accepted, refused and malformed lines
+/// can have; the random scripts must produce each of them.
 const HEADS: &[&str] = &[
     "c,0", "c,1", "c,2", "c,3", "c,4", "c,11", "c,12", "c,13", "c,14", "g,0", "g,1", "w,0,n",
     "w,0,c", "w,0,u", "w,0,e", "w,0,p", "w,5", "w,7", "w,9", "r,0,n", "r,0,c", "r,0,u", "r,0,e",
@@ -35,7 +35,7 @@ pub fn random_scripts(rng: &mut Rng, busline: &Busline) -> Result<String, String
             let script = scripts::script(rng, length);
             let mut input = scripts::as_input(&script);
             if rng.percent(30) {
-                // "The last LF may lack."
+                // LINE-1: the last LF may be missing.
                 input.pop();
             }
             let feed = Feed::Chunks(rng.next_u64());
@@ -194,7 +194,7 @@ fn up_to_difference<'a>(busline: &Busline, input: &'a [u8]) -> &'a [u8] {
     }
 }
 
-/// Each line keeps its LF, which the last may lack.
+/// Each line keeps its LF, which may be missing after the last one.
 fn split_lines(input: &[u8]) -> Vec<Vec<u8>> {
     input
         .split_inclusive(|&byte| byte == b'\n')

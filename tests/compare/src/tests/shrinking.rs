@@ -1,5 +1,5 @@
-//! That a failing input is made as small as it can be: what the other tests
-//! print rests on it.
+//! A failing input is made as small as possible; the other tests rely on this
+//! for what they print.
 
 use crate::shrink::{fewer, zeroed, Budget};
 

@@ -12,9 +12,7 @@ use crate::record::Record;
 /// Number of addresses that are used again and again in one list.
 const HOT_ADDRESSES: usize = 24;
 
-/// A list under the condition that between any two accepted flips of one
-/// doubleword stands an accepted write or scrub of it. The record was just
-/// switched on.
+/// A list that meets LIST-6, for a record that was just switched on.
 pub fn list(rng: &mut Rng, record: &Record, length: usize) -> Vec<Call> {
     let layout = map::switched_on(record).expect("a record just switched on");
     let flat = FlatMachine::of_record(record).expect("a record just switched on");
@@ -35,7 +33,7 @@ pub fn list(rng: &mut Rng, record: &Record, length: usize) -> Vec<Call> {
 struct ListMaker<'a> {
     rng: &'a mut Rng,
     hot: Vec<u32>,
-    /// Only its spans are asked.
+    /// Only its spans are used.
     flat: FlatMachine,
     /// Doublewords that took a flip and no write or scrub since.
     flipped: HashSet<u32>,
@@ -123,8 +121,7 @@ impl ListMaker<'_> {
         self.calls.push(Call::Flip { address, bit });
     }
 
-    /// "Reads and writes at offsets B8 to CB only, those refused with 1 or 2
-    /// among them."
+    /// LIST-1: register reads and writes from B8 to CB, also refused ones.
     fn add_register_call(&mut self) {
         let offset = 0xB8 + self.rng.below(20) as u8;
         self.calls.push(if self.rng.percent(30) {
@@ -136,8 +133,8 @@ impl ListMaker<'_> {
     }
 }
 
-/// True if a list keeps the condition, judged by the flat machine's own
-/// refusals; a check on [`list`] made apart from it.
+/// True if a list meets LIST-6, judged by the flat machine's refusals; an
+/// independent check on [`list`].
 pub fn keeps_condition(record: &Record, calls: &[Call]) -> bool {
     use crate::calls::Outcome;
     let mut flat = FlatMachine::of_record(record).expect("a record just switched on");

@@ -1,5 +1,5 @@
-//! Random line scripts: accepted, refused and malformed lines, with high
-//! rates of what is interesting.
+//! Random line scripts: accepted, refused and malformed lines, with many
+//! interesting cases.
 
 use super::{setups, Rng};
 use crate::lines::LENT_CELLS;
@@ -84,8 +84,8 @@ impl<'a> ScriptMaker<'a> {
     // Set-ups.
 
     /// Switches off, writes a set-up that is accepted, and switches on. Only
-    /// the lowest enabled bank can have lent cells, every bank having at
-    /// least 2^17; a set-up that leaves them without address is rare.
+    /// the lowest enabled bank can have lent cells, every bank having at least
+    /// 2^17; a set-up in which these cells have no address is rare.
     fn set_up(&mut self) {
         let mut draft = setups::accepted_draft(self.rng, u32::MAX);
         for _ in 0..REDRAWS {
@@ -221,7 +221,8 @@ impl<'a> ScriptMaker<'a> {
         }
     }
 
-    /// Uncorrectable unless both flips hit one bit; mended mostly.
+    /// Uncorrectable unless both flips hit the same bit; mostly repaired
+    /// afterwards.
     fn flip_twice_and_look(&mut self) {
         let doubleword = self.hot_doubleword();
         self.flip(doubleword);

@@ -4,7 +4,7 @@ use super::Rng;
 use crate::map::{self, Layout};
 use crate::record::{is_extended, offset::*, Record, BANKS, SWITCH_ON};
 
-/// How often a place for one bank is looked for before it stays off.
+/// How many times a place for a bank is tried before the bank stays off.
 const ATTEMPTS: u32 = 8;
 
 /// A record just switched on, its cells no more than the limit. Banks that
@@ -34,7 +34,7 @@ pub fn accepted_draft(rng: &mut Rng, cell_limit: u32) -> Record {
     }
 }
 
-/// A set-up in the lowest megabytes, for what looks at every doubleword.
+/// A set-up in the lowest megabytes, for tests that look at every doubleword.
 pub fn small(rng: &mut Rng, end_mb: u32) -> Record {
     loop {
         let record = accepted(rng, u32::MAX);
@@ -58,8 +58,9 @@ pub fn refused_draft(rng: &mut Rng) -> Record {
     }
 }
 
-/// A record that no register calls need have left: extended bytes above 3,
-/// F2 with other bits, bytes where nothing is listed, or all of it random.
+/// A record that register calls need not be able to produce: extended bytes
+/// above 3, F2 with other bits, bytes where nothing is listed, or all of it
+/// random.
 pub fn made_by_hand(rng: &mut Rng) -> Record {
     let mut record = match rng.below(10) {
         0 => Record::fresh(),
@@ -89,8 +90,9 @@ pub fn made_by_hand(rng: &mut Rng) -> Record {
     record
 }
 
-/// A record beside an accepted one that may or may not be alike: a row code,
-/// an end or something of no matter to the map is changed. Still accepted.
+/// A record beside an accepted one that may or may not be alike: a row code, an
+/// end or something that does not affect the map is changed. It is still
+/// accepted.
 pub fn neighbour(rng: &mut Rng, record: &Record) -> Record {
     let enabled: Vec<u8> = (0..BANKS).filter(|&n| record.is_enabled(n)).collect();
     loop {

@@ -5,9 +5,11 @@ use Prim.Native.Nat.{ℕ}
 use lib.ListN.{length}
 use lib.Seq.{length-take-le}
 use Rattle.ecc.specs.Columns.{columns}
+use Rattle.calls.specs.State.{state}
 use Rattle.print.proofs.PrintLaws.{least-le}
-use Rattle.lines.specs.Printed.{held, lineInto}
-use Rattle.lines.proofs.StepLaws.{take-41}
+use Rattle.lines.specs.Printed.{lineInto}
+use Rattle.lines.specs.Text.{mostCarried}
+use Rattle.lines.proofs.StepLaws.{take-carried}
 use borrow.Author.Needs.{needs}
 use Rattle.lines.proofs.feed.carried_line.Statement.{statement}
 use Rattle.lines.proofs.feed.carried_line.Tie as tie
@@ -17,18 +19,18 @@ least-requires c κs = search needs
 
 array-share-prefix-bytes : tie.Need-array-share-prefix-bytes
 array-share-prefix-bytes c =
-    let a = c .before .before .before .before .before .before .args .carry in
-    let n = c .before .before .least in
-    let h = least-le (a .len) 41 (n .result) (n .ensures) in
-    let l : length (a .bytes) ≡ 41 = search needs in
+    let a = c .before .before .before .before .before .args .carry in
+    let n = c .before .least in
+    let h = least-le (a .len) mostCarried (n .result) (n .ensures) in
+    let l : length (a .bytes) ≡ mostCarried = search needs in
     omega arith
 
 slice-aggregate-execute : tie.Need-slice-aggregate-execute
 slice-aggregate-execute c =
-    let a = c .before .before .before .before .before .before .before .args .carry in
-    let n = c .before .before .before .least in
-    let h = least-le (a .len) 41 (n .result) (n .ensures) in
-    let l : length (a .bytes) ≡ 41 = search needs in
+    let a = c .before .before .before .before .before .before .args .carry in
+    let n = c .before .before .least in
+    let h = least-le (a .len) mostCarried (n .result) (n .ensures) in
+    let l : length (a .bytes) ≡ mostCarried = search needs in
     sym (length-take-le (n .result) (a .bytes) (omega arith))
 
 execute-requires : tie.Need-execute-requires
@@ -42,11 +44,11 @@ same-length-2 c = search needs
 
 returns : tie.Need-returns
 returns c =
-    let a = c .before .before .before .before .before .before .before .before .before .before .before .before .before .args in
-    let n = c .before .before .before .before .before .before .before .before .before .least in
+    let a = c .before .before .before .before .before .before .before .before .before .before .before .before .args in
+    let n = c .before .before .before .before .before .before .before .before .least in
     let e = c .before .before .before .before .execute in
-    let l : length (a .carry .bytes) ≡ 41 = search needs in
-    (e .ensures .0 ∙ ap (λ (x : List ℕ). lineInto columns (held (a .registers .now) (a .cells .now)) x (a .out .now)) (take-41 (a .carry .bytes) (a .carry .len) (n .result) l (n .ensures)), e .ensures .1)
+    let l : length (a .carry .bytes) ≡ mostCarried = search (needs, c .before .before .before .before .before .before .before .before .before .before .before .before .good) in
+    e .ensures ∙ ap (λ (x : List ℕ). lineInto columns (state (a .registers) (a .cells .now)) x (a .out .now)) (take-carried (a .carry .bytes) (a .carry .len) (n .result) l (n .ensures))
 
 pub carried-line-spec : {M : Type 1} → statement M
 carried-line-spec =

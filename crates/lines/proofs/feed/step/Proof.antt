@@ -1,10 +1,15 @@
 use native.Mathlib.Omega.{arith}
-use mathlib.Core.Path.{sym, ap, _∙_}
-use Prim.Native.Nat.{_-_}
+use mathlib.Core.Path.{_≡_, sym, ap, subst, _∙_}
+use Prim.Native.Nat.{ℕ, _-_, _≤_}
 use lib.ListN.{length, take, drop, length-drop}
 use lib.Seq.{length-take-le, take-all}
 use Rattle.ecc.specs.Columns.{columns}
-use Rattle.lines.proofs.StepLaws.{step-left, step-plain, step-lines}
+use Rattle.calls.specs.State.{state}
+use Rattle.print.specs.Printed.{longestOutputLine}
+use Rattle.lines.specs.Printed.{LineEffect}
+use Rattle.lines.specs.Stepped.{carriedOf, keptOf}
+use Rattle.lines.specs.Text.{mostCarried}
+use Rattle.lines.proofs.StepLaws.{into-few, step-refused, step-plain, step-lines}
 use borrow.Author.Needs.{needs}
 use Rattle.lines.proofs.feed.step.Statement.{statement}
 use Rattle.lines.proofs.feed.step.Tie as tie
@@ -12,25 +17,25 @@ use Rattle.lines.proofs.feed.step.Tie as tie
 returns : tie.Need-returns
 returns c =
     let a = c .before .before .before .before .args in
-    (step-left columns _ (a .chunk .now) (a .out .now) (omega arith), omega arith)
+    step-refused columns (keptOf (a .kept) (a .cells .now)) (a .chunk .now) (a .out .now) (omega arith)
 
 line-end-requires : tie.Need-line-end-requires
 line-end-requires c κs = search needs
 
 slice-aggregate-joined : tie.Need-slice-aggregate-joined
 slice-aggregate-joined c =
-    let e = c .before .before .line-end in
-    sym (length-take-le (e .result) (c .before .before .before .before .before .before .before .args .chunk .now) (e .ensures .1))
+    let e = c .before .before .before .before .line-end in
+    sym (length-take-le (e .result) (c .before .before .before .before .before .before .before .before .before .args .chunk .now) (e .ensures .1))
 
 joined-requires : tie.Need-joined-requires
 joined-requires c κs = search needs
 
 returns-2 : tie.Need-returns-2
 returns-2 c =
-    let a = c .before .before .before .before .before .before .before .before .before .args in
-    let e = c .before .before .before .before .line-end in
+    let a = c .before .before .before .before .before .before .before .before .before .before .before .args in
+    let e = c .before .before .before .before .before .before .line-end in
     let first = c .before .joined in
-    (step-plain columns (a .registers .now) (a .cells .now) _ (a .chunk .now) (a .out .now) (e .result) _ (omega arith) (e .ensures .0) (first .ensures .1) (first .ensures .0) (c .if2 .taken), omega arith)
+    step-plain columns (state (a .kept .registers) (a .cells .now)) (carriedOf (a .kept .carry)) (a .chunk .now) (a .out .now) (e .result) _ (omega arith) (e .ensures .0) (first .ensures .1) (first .ensures .0) (c .if2 .taken)
 
 carried-line-requires : tie.Need-carried-line-requires
 carried-line-requires c κs = search needs
@@ -39,7 +44,14 @@ add-whole-lines : tie.Need-add-whole-lines
 add-whole-lines c = search needs
 
 whole-lines-requires : tie.Need-whole-lines-requires
-whole-lines-requires c κs = search needs
+whole-lines-requires c κs =
+    let l = c .before .before .before .before .before .before .before .carried-line in
+    let few : l .result .printed ≤ longestOutputLine = subst (λ (n : ℕ). n ≤ longestOutputLine) (sym (ap (λ (e : LineEffect). e .0) (l .ensures))) (into-few columns _ _ _) in
+    let enough = c .before .before .before .before .before .before .before .before .before .before .before .before .before .before .before .before .before .if1 .left in
+    let within = c .before .before .before .before .before .before .before .before .before .before .before .before .before .before .before .before .line-end .ensures .1 in
+    let same = c .before .before .before .before .out .given in
+    let size : length (l .last .1 .1 .1 .0) ≡ length (c .before .before .before .before .before .before .before .before .before .before .before .before .before .before .before .before .before .before .before .before .before .args .out .now) = same in
+    (omega arith, omega arith)
 
 sub-joined : tie.Need-sub-joined
 sub-joined c = search needs
@@ -61,24 +73,20 @@ same-length-2 c = search needs
 
 returns-3 : tie.Need-returns-3
 returns-3 c =
-    let a = c .before .before .before .before .before .before .before .before .before .before .before .before .before .before .before .before .before .before .before .before .before .before .before .before .before .before .before .args in
-    let enough = c .before .before .before .before .before .before .before .before .before .before .before .before .before .before .before .before .before .before .before .before .before .before .before .if1 .left in
-    let e = c .before .before .before .before .before .before .before .before .before .before .before .before .before .before .before .before .before .before .before .before .before .before .line-end in
+    let a = c .before .before .before .before .before .before .before .before .before .before .before .before .before .before .before .before .before .before .before .before .before .before .before .before .before .before .before .before .before .args in
+    let enough = c .before .before .before .before .before .before .before .before .before .before .before .before .before .before .before .before .before .before .before .before .before .before .before .before .before .if1 .left in
+    let e = c .before .before .before .before .before .before .before .before .before .before .before .before .before .before .before .before .before .before .before .before .before .before .before .before .line-end in
     let first = c .before .before .before .before .before .before .before .before .before .before .before .before .before .before .before .before .before .before .before .joined in
     let found = c .before .before .before .before .before .before .before .before .before .before .before .before .before .before .before .before .before .before .if2 .left in
-    let line = c .before .before .before .before .before .before .before .before .before .before .before .before .before .before .carried-line in
-    let all = c .before .before .before .before .before .before .whole-lines in
+    let line = c .before .before .before .before .before .before .before .before .before .before .before .before .before .before .before .carried-line in
+    let all = c .before .before .before .before .before .before .before .whole-lines in
     let within = e .ensures .1 in
     let w = all .ensures .0 in
-    let m = w .room in
-    let s = w .size in
-    let x = all .result .from in (
-      step-lines columns (a .registers .now) (a .cells .now) _ (a .chunk .now) (a .out .now) (e .result) _ (omega arith) (e .ensures .0) (first .ensures .1) (first .ensures .0)
-          (line .result) (line .last .0) (line .last .1 .0) (line .last .1 .1 .1 .0) (all .last .0) (all .last .1 .0) (all .last .1 .1 .1 .1 .0) x (all .result .at) _
-          (omega arith) (line .ensures .1) (line .ensures .0) w (all .ensures .1)
-          (c .joined2 .ensures .0 ∙ ap (take 41) (take-all (length (a .chunk .now) - x) (drop x (a .chunk .now)) (omega (arith, length-drop x (a .chunk .now))))),
-      omega arith,
-    )
+    let x = all .result .from in
+    step-lines columns (state (a .kept .registers) (a .cells .now)) (carriedOf (a .kept .carry)) (a .chunk .now) (a .out .now) (e .result) _ (omega arith) (e .ensures .0) (first .ensures .1) (first .ensures .0)
+    (line .result .printed) (state (line .result .registers) (line .last .1 .0)) (line .last .1 .1 .1 .0) (state (all .result .registers) (all .last .1 .0)) (all .last .1 .1 .1 .1 .0) x (all .result .at) _
+    (omega arith) (line .ensures) w (all .ensures .1)
+    (c .before .joined2 .ensures .0 ∙ ap (take mostCarried) (take-all (length (a .chunk .now) - x) (drop x (a .chunk .now)) (omega (arith, length-drop x (a .chunk .now)))))
 
 pub step-spec : {M : Type 1} → statement M
 step-spec =

@@ -1,22 +1,26 @@
-use Prim.Native.Nat.{_-_}
+use Prim.Native.Nat.{ℕ, _+_, _-_, _^_, _<_, _≤_}
 use native.Mathlib.Omega.{arith}
-use mathlib.Core.Path.{_≡_, refl, _∙_}
+use mathlib.Core.Path.{_≡_, refl, sym, ap, subst, _∙_}
 use lib.ListN.{length}
 use Rattle.ecc.specs.Columns.{columns}
+use Rattle.calls.specs.State.{state}
+use Rattle.print.specs.Printed.{longestOutputLine}
+use Rattle.lines.specs.Printed.{LineEffect}
 use Rattle.lines.specs.Stepped.{Reached}
-use Rattle.lines.proofs.TextLaws.{length-end}
-use Rattle.lines.proofs.StepLaws.{reached-start, reached-line}
+use Rattle.lines.proofs.LineEndLaws.{length-end}
+use Rattle.lines.proofs.StepLaws.{into-few, reached-start, reached-line}
+use borrow.Author.Needs.{needs}
 use Rattle.lines.proofs.feed.whole_lines.Statement.{statement}
 use Rattle.lines.proofs.feed.whole_lines.Tie as tie
 
 abbrev Inv-loop : tie.InvT-loop
-Inv-loop registers₀ cells₀ chunk from out₀ at i₀ n₀ registers cells out i n = Reached columns chunk registers₀ cells₀ from out₀ at registers cells i out n × (length cells ≡ length cells₀)
+Inv-loop cells₀ chunk from out₀ at current₀ i₀ n₀ cells out current i n = Reached columns chunk (state current₀ cells₀) from out₀ at (state current cells) i out n × (length cells ≡ length cells₀)
 
 abbrev μ-loop : tie.MeasureT-loop
-μ-loop registers₀ cells₀ chunk from out₀ at i₀ n₀ registers cells out i n = length chunk - i
+μ-loop cells₀ chunk from out₀ at current₀ i₀ n₀ cells out current i n = length chunk - i
 
 loop-holds : tie.Need-loop-holds Inv-loop μ-loop
-loop-holds c = (reached-start _ _ _ _ _ _ _ (omega arith) (omega arith), refl)
+loop-holds c = (reached-start _ _ _ _ _ _ (omega arith) (omega arith), refl)
 
 line-end-requires : tie.Need-line-end-requires Inv-loop μ-loop
 line-end-requires c κs = omega arith
@@ -32,7 +36,7 @@ part-execute-end c = omega arith
 
 sub-execute-2 : tie.Need-sub-execute-2 Inv-loop μ-loop
 sub-execute-2 c =
-    let h = c .before .before .before .before .before .before .loop .inv .0 in
+    let h = c .before .before .before .before .before .loop .inv .0 in
     let s = h .size in
     let r = h .room in
     let w = h .within in
@@ -40,7 +44,7 @@ sub-execute-2 c =
 
 part-execute-start-2 : tie.Need-part-execute-start-2 Inv-loop μ-loop
 part-execute-start-2 c =
-    let h = c .before .before .before .before .before .before .loop .inv .0 in
+    let h = c .before .before .before .before .before .loop .inv .0 in
     let s = h .size in
     let r = h .room in
     let w = h .within in
@@ -48,7 +52,7 @@ part-execute-start-2 c =
 
 part-execute-end-2 : tie.Need-part-execute-end-2 Inv-loop μ-loop
 part-execute-end-2 c =
-    let h = c .before .before .before .before .before .before .loop .inv .0 in
+    let h = c .before .before .before .before .before .loop .inv .0 in
     let s = h .size in
     let r = h .room in
     let w = h .within in
@@ -59,11 +63,19 @@ execute-requires c κs = tt
 
 add-n : tie.Need-add-n Inv-loop μ-loop
 add-n c =
-    let h = c .before .before .before .before .before .before .before .before .before .before .before .before .loop .inv .0 in
-    let k = c .before .before .before .before .execute .ensures .1 in
+    let at = c .before .before .before .before .before .before .before .before .before .before .before .before .before .loop in
+    let h = at .inv .0 in
+    let x = c .before .before .before .before .before .before .execute in
+    let few : x .result .printed ≤ longestOutputLine = subst (λ (n : ℕ). n ≤ longestOutputLine) (sym (ap (λ (e : LineEffect). e .0) (x .ensures))) (into-few columns _ _ _) in
     let s = h .size in
     let r = h .room in
-    omega arith
+    let w = h .within in
+    let e = c .before .before .before .before .before .before .before .before .before .before .before .line-end .ensures .1 in
+    let t = c .before .before .before .before .before .before .before .before .before .before .if1 .left in
+    let a = c .before .before .before .before .before .before .before .before .before .before .before .before .before .before .before .before .before .args in
+    let known : length (a .out .now) < 2 ^ 64 = search (needs, c .before .before .before .before .before .before .before .before .before .before .before .before .before .before .before .before .before .good) in
+    let sum : at .n + x .result .printed < 2 ^ 64 = omega arith in
+    record { fits = sum }
 
 add-i : tie.Need-add-i Inv-loop μ-loop
 add-i c = omega arith
@@ -73,12 +85,12 @@ loop-less c = omega arith
 
 loop-again : tie.Need-loop-again Inv-loop μ-loop
 loop-again c =
-    let a = c .before .before .before .before .before .before .before .before .before .before .before .before .before .before .before .before .args in
-    let at = c .before .before .before .before .before .before .before .before .before .before .before .before .loop in
-    let e = c .before .before .before .before .before .before .before .before .before .before .line-end in
-    let x = c .before .before .before .before .execute in (
-      reached-line columns (a .chunk .now) (a .registers .now) (a .cells .now) (a .from) (a .out .now) (a .at) (at .registers) (at .cells) (at .i) (at .out) (at .n) (at .inv .0) (e .result) (e .ensures .0) (omega arith) (x .result) (x .last .1 .1 .1 .0) (x .last .0) (x .last .1 .0) (x .ensures .1) (x .ensures .0),
-      c .before .before .before .cells .given ∙ at .inv .1,
+    let a = c .before .before .before .before .before .before .before .before .before .before .before .before .before .before .before .before .before .args in
+    let at = c .before .before .before .before .before .before .before .before .before .before .before .before .before .loop in
+    let e = c .before .before .before .before .before .before .before .before .before .before .before .line-end in
+    let x = c .before .before .before .before .before .before .execute in (
+      reached-line columns (a .chunk .now) (state (a .registers) (a .cells .now)) (a .from) (a .out .now) (a .at) (state (at .current) (at .cells)) (at .i) (at .out) (at .n) (at .inv .0) (e .result) (e .ensures .0) (omega arith) (x .result .printed) (x .last .1 .1 .1 .0) (state (x .result .registers) (x .last .1 .0)) (x .ensures),
+      c .before .before .before .before .before .cells .given ∙ at .inv .1,
     )
 
 same-length : tie.Need-same-length Inv-loop μ-loop

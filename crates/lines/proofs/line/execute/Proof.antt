@@ -2,15 +2,16 @@ use native.Mathlib.Omega.{arith}
 use mathlib.Core.Path.{refl, sym, _∙_}
 use lib.Seq.{length-take-le}
 use Rattle.ecc.specs.Columns.{columns}
+use Rattle.calls.specs.State.{state}
 use Rattle.print.specs.Output.{malformedText}
 use Rattle.lines.specs.Line.{orMalformed}
-use Rattle.lines.proofs.LineLaws.{no-room, line-told, executed}
+use Rattle.lines.proofs.LineLaws.{no-room, line-printed, asked-line}
 use borrow.Author.Needs.{needs}
 use Rattle.lines.proofs.line.execute.Statement.{statement}
 use Rattle.lines.proofs.line.execute.Tie as tie
 
 returns : tie.Need-returns
-returns c = (no-room columns _ (c .before .before .before .before .args .line .now) (c .before .before .before .before .args .out .now) (omega arith), omega arith)
+returns c = let a = c .before .before .before .before .args in no-room columns (state (a .registers) (a .cells .now)) (a .line .now) (a .out .now) (omega arith)
 
 parse-requires : tie.Need-parse-requires
 parse-requires c κs = search needs
@@ -24,14 +25,14 @@ malformed-requires c κs = search needs
 enum-known-request : tie.Need-enum-known-request
 enum-known-request c = search needs
 
-set-line-requires : tie.Need-set-line-requires
-set-line-requires c κs = search needs
+register-write-line-requires : tie.Need-register-write-line-requires
+register-write-line-requires c κs = search needs
 
 enum-known-request-2 : tie.Need-enum-known-request-2
 enum-known-request-2 c = search needs
 
-get-line-requires : tie.Need-get-line-requires
-get-line-requires c κs = search needs
+register-read-line-requires : tie.Need-register-read-line-requires
+register-read-line-requires c κs = search needs
 
 enum-known-request-3 : tie.Need-enum-known-request-3
 enum-known-request-3 c = search needs
@@ -41,7 +42,7 @@ array-share-prefix-bytes c = search needs
 
 slice-aggregate-write-line : tie.Need-slice-aggregate-write-line
 slice-aggregate-write-line c =
-    let p = c .before .before .before .before .before .before .before .parse in
+    let p = c .before .before .before .before .before .before .parse in
     sym (length-take-le (p .result .count) (p .result .bytes) (p .ensures .1))
 
 write-line-requires : tie.Need-write-line-requires
@@ -73,11 +74,10 @@ unfolding orMalformed
 returns-2 c =
     let a = c .before .before .before .before .before .before .before .before .before .before .before .args in
     let p = c .before .before .before .before .before .before .parse in
-    let m = c .before .before .malformed in (
-      line-told (m .result) (a .out .now) (m .last .0) malformedText (a .registers .now) (a .cells .now) _ (omega arith) (m .ensures .0) refl
-          ∙ executed columns _ (a .line .now) (a .out .now) (p .result) _ (omega arith) (p .ensures .0) (c .before .before .before .before .enum-told .given .1),
-      m .ensures .1,
-    )
+    let m = c .before .before .malformed in
+    let st = state (a .registers) (a .cells .now) in
+    line-printed (m .result) (a .out .now) (m .last .0) malformedText st _ (omega arith) (m .ensures) refl
+    ∙ asked-line columns st (a .line .now) (a .out .now) (p .result) _ (omega arith) (p .ensures .0) (c .before .before .before .before .enum-told .given .1)
 
 same-length-2 : tie.Need-same-length-2
 same-length-2 c = search needs
@@ -85,9 +85,9 @@ same-length-2 c = search needs
 returns-3 : tie.Need-returns-3
 unfolding orMalformed
 returns-3 c =
-    let a = c .before .before .before .before .before .before .before .before .before .before .before .before .before .args in
-    let p = c .before .before .before .before .before .before .before .before .parse in
-    (c .before .before .set-line .ensures .0 _ ∙ executed columns _ (a .line .now) (a .out .now) (p .result) _ (omega arith) (p .ensures .0) (c .before .before .before .before .before .before .request .given .1), c .before .before .set-line .ensures .1)
+    let a = c .before .before .before .before .before .before .before .before .before .before .before .before .args in
+    let p = c .before .before .before .before .before .before .before .parse in
+    (c .before .before .register-write-line .ensures (a .cells .now)) ∙ asked-line columns (state (a .registers) (a .cells .now)) (a .line .now) (a .out .now) (p .result) _ (omega arith) (p .ensures .0) (c .before .before .before .before .before .request .given .1)
 
 same-length-3 : tie.Need-same-length-3
 same-length-3 c = search needs
@@ -95,9 +95,9 @@ same-length-3 c = search needs
 returns-4 : tie.Need-returns-4
 unfolding orMalformed
 returns-4 c =
-    let a = c .before .before .before .before .before .before .before .before .before .before .before .before .before .args in
-    let p = c .before .before .before .before .before .before .before .before .parse in
-    (c .before .before .get-line .ensures .0 _ ∙ executed columns _ (a .line .now) (a .out .now) (p .result) _ (omega arith) (p .ensures .0) (c .before .before .before .before .before .before .request2 .given .1), c .before .before .get-line .ensures .1)
+    let a = c .before .before .before .before .before .before .before .before .before .before .before .before .args in
+    let p = c .before .before .before .before .before .before .before .parse in
+    (c .before .before .register-read-line .ensures (a .cells .now)) ∙ asked-line columns (state (a .registers) (a .cells .now)) (a .line .now) (a .out .now) (p .result) _ (omega arith) (p .ensures .0) (c .before .before .before .before .before .request2 .given .1)
 
 same-length-4 : tie.Need-same-length-4
 same-length-4 c = search needs
@@ -108,9 +108,9 @@ same-length-5 c = search needs
 returns-5 : tie.Need-returns-5
 unfolding orMalformed
 returns-5 c =
-    let a = c .before .before .before .before .before .before .before .before .before .before .before .before .before .before .before .before .before .before .args in
-    let p = c .before .before .before .before .before .before .before .before .before .before .before .before .before .parse in
-    (c .before .before .before .before .write-line .ensures .0 ∙ executed columns _ (a .line .now) (a .out .now) (p .result) _ (omega arith) (p .ensures .0) (c .before .before .before .before .before .before .before .before .before .before .before .request3 .given .1), c .before .before .before .before .write-line .ensures .1)
+    let a = c .before .before .before .before .before .before .before .before .before .before .before .before .before .before .before .before .before .args in
+    let p = c .before .before .before .before .before .before .before .before .before .before .before .before .parse in
+    c .before .before .before .before .write-line .ensures ∙ asked-line columns (state (a .registers) (a .cells .now)) (a .line .now) (a .out .now) (p .result) _ (omega arith) (p .ensures .0) (c .before .before .before .before .before .before .before .before .before .before .request3 .given .1)
 
 same-length-6 : tie.Need-same-length-6
 same-length-6 c = search needs
@@ -121,9 +121,9 @@ same-length-7 c = search needs
 returns-6 : tie.Need-returns-6
 unfolding orMalformed
 returns-6 c =
-    let a = c .before .before .before .before .before .before .before .before .before .before .before .before .before .before .args in
-    let p = c .before .before .before .before .before .before .before .before .before .parse in
-    (c .before .before .read-line .ensures .0 ∙ executed columns _ (a .line .now) (a .out .now) (p .result) _ (omega arith) (p .ensures .0) (c .before .before .before .before .before .before .before .request4 .given .1), c .before .before .read-line .ensures .1)
+    let a = c .before .before .before .before .before .before .before .before .before .before .before .before .before .args in
+    let p = c .before .before .before .before .before .before .before .before .parse in
+    c .before .before .read-line .ensures ∙ asked-line columns (state (a .registers) (a .cells .now)) (a .line .now) (a .out .now) (p .result) _ (omega arith) (p .ensures .0) (c .before .before .before .before .before .before .request4 .given .1)
 
 same-length-8 : tie.Need-same-length-8
 same-length-8 c = search needs
@@ -134,9 +134,9 @@ same-length-9 c = search needs
 returns-7 : tie.Need-returns-7
 unfolding orMalformed
 returns-7 c =
-    let a = c .before .before .before .before .before .before .before .before .before .before .before .before .before .before .before .before .args in
-    let p = c .before .before .before .before .before .before .before .before .before .before .before .parse in
-    (c .before .before .before .before .flip-line .ensures .0 ∙ executed columns _ (a .line .now) (a .out .now) (p .result) _ (omega arith) (p .ensures .0) (c .before .before .before .before .before .before .before .before .before .request5 .given .1), c .before .before .before .before .flip-line .ensures .1)
+    let a = c .before .before .before .before .before .before .before .before .before .before .before .before .before .before .before .args in
+    let p = c .before .before .before .before .before .before .before .before .before .before .parse in
+    c .before .before .before .before .flip-line .ensures ∙ asked-line columns (state (a .registers) (a .cells .now)) (a .line .now) (a .out .now) (p .result) _ (omega arith) (p .ensures .0) (c .before .before .before .before .before .before .before .before .request5 .given .1)
 
 same-length-10 : tie.Need-same-length-10
 same-length-10 c = search needs
@@ -147,9 +147,9 @@ same-length-11 c = search needs
 returns-8 : tie.Need-returns-8
 unfolding orMalformed
 returns-8 c =
-    let a = c .before .before .before .before .before .before .before .before .before .before .before .before .before .before .before .before .args in
-    let p = c .before .before .before .before .before .before .before .before .before .before .before .parse in
-    (c .before .before .before .before .scrub-line .ensures .0 ∙ executed columns _ (a .line .now) (a .out .now) (p .result) _ (omega arith) (p .ensures .0) (c .before .before .before .before .before .before .before .before .before .request6 .given .1), c .before .before .before .before .scrub-line .ensures .1)
+    let a = c .before .before .before .before .before .before .before .before .before .before .before .before .before .before .before .args in
+    let p = c .before .before .before .before .before .before .before .before .before .before .parse in
+    c .before .before .before .before .scrub-line .ensures ∙ asked-line columns (state (a .registers) (a .cells .now)) (a .line .now) (a .out .now) (p .result) _ (omega arith) (p .ensures .0) (c .before .before .before .before .before .before .before .before .request6 .given .1)
 
 pub execute-spec : {M : Type 1} → statement M
 execute-spec =
@@ -160,9 +160,9 @@ execute-spec =
     enum-told
     malformed-requires
     enum-known-request
-    set-line-requires
+    register-write-line-requires
     enum-known-request-2
-    get-line-requires
+    register-read-line-requires
     enum-known-request-3
     array-share-prefix-bytes
     slice-aggregate-write-line

@@ -1,32 +1,46 @@
-use native.Mathlib.Nat.{zero-add}
-use borrow.Author.Needs.{needs}
-use mathlib.Core.Path.{refl}
+use mathlib.Core.Path.{_≡_, refl, sym, _∙_}
 use mathlib.Core.List.{append-nil}
-use lib.ListN.{length-set, length-drop}
-use lib.Seq.{getD-drop, drop-length}
 use Prim.Native.Nat.{_-_, _≤_}
-use mathlib.Core.Path.{_≡_, _∙_}
-use native.Mathlib.Omega.{arith}
+use native.Mathlib.Nat.{zero-add}
 use native.Mathlib.Numerals.{add-one}
-use lib.ListN.{length, drop}
-use lib.Seq.{paste, paste-zero, paste-suc}
+use native.Mathlib.Omega.{arith}
+use lib.ListN.{length, drop, length-set, length-drop}
+use lib.Seq.{paste, paste-zero, paste-suc, getD-drop, drop-length, take-all}
+use Rattle.ecc.specs.Doubleword.{bytesOfNumber}
+use Rattle.ecc.proofs.DoublewordLaws.{number-length}
 use Rattle.memory.proofs.bytes.copy_out.Statement.{statement}
 use Rattle.memory.proofs.bytes.copy_out.Tie as tie
 
 abbrev Inv-loop : tie.InvT-loop
-Inv-loop offset buffer₀ doubleword i₀ buffer i = (i ≤ length buffer) × (length buffer ≡ length buffer₀) × (length doubleword ≡ 8) × (buffer ≡ paste buffer₀ 0 (drop offset doubleword) i)
+Inv-loop doubleword offset buffer₀ i₀ buffer i = (i ≤ length buffer) × (length buffer ≡ length buffer₀) × (buffer ≡ paste buffer₀ 0 (drop offset (bytesOfNumber doubleword)) i)
 
 abbrev μ-loop : tie.MeasureT-loop
-μ-loop offset buffer₀ doubleword i₀ buffer i = length buffer - i
+μ-loop doubleword offset buffer₀ i₀ buffer i = length buffer - i
+
+copy-all-requires : tie.Need-copy-all-requires Inv-loop μ-loop
+copy-all-requires c κs = c .before .if1 .taken
+
+same-length : tie.Need-same-length Inv-loop μ-loop
+same-length c = omega (arith, number-length (c .before .before .before .before .before .before .args .doubleword))
+
+-- eight bytes from an offset on are all, from 0 on
+returns : tie.Need-returns Inv-loop μ-loop
+returns c =
+    let a = c .before .before .before .before .before .before .args in
+    let n : length (a .buffer .now) ≡ 8 = c .before .before .before .before .if1 .taken in
+    let z : a .offset ≡ 0 = omega arith in
+    c .before .before .copy-all .ensures ∙ rw (n, z) (sym (take-all 8 (bytesOfNumber (a .doubleword)) (omega (arith, number-length (a .doubleword)))))
 
 loop-holds : tie.Need-loop-holds Inv-loop μ-loop
-loop-holds c = (omega arith, refl, search needs, paste-zero (c .args .buffer .now) 0 (drop (c .args .offset) (c .args .t1)))
+loop-holds c =
+    let a = c .before .before .args in
+    (omega arith, refl, paste-zero (a .buffer .now) 0 (drop (a .offset) (bytesOfNumber (a .doubleword))))
 
-add-buffer : tie.Need-add-buffer Inv-loop μ-loop
-add-buffer c = omega arith
+add-byte : tie.Need-add-byte Inv-loop μ-loop
+add-byte c = omega arith
 
-array-read-buffer : tie.Need-array-read-buffer Inv-loop μ-loop
-array-read-buffer c = omega arith
+byte-requires : tie.Need-byte-requires Inv-loop μ-loop
+byte-requires c κs = omega arith
 
 slice-write-buffer : tie.Need-slice-write-buffer Inv-loop μ-loop
 slice-write-buffer c = omega arith
@@ -39,25 +53,25 @@ loop-less c = simp length-set (omega arith)
 
 loop-again : tie.Need-loop-again Inv-loop μ-loop
 loop-again c =
-    let l = c .before .loop in
-    let a = c .before .before .args in
-    let s = drop (a .offset) (a .t1) in
-    let p = paste-suc (a .buffer .now) 0 s (l .i) 0 (omega arith) (simp length-drop (omega arith)) in (
+    let l = c .before .before .loop in
+    let a = c .before .before .before .before .before .args in
+    let d = bytesOfNumber (a .doubleword) in
+    let s = drop (a .offset) d in
+    let p = paste-suc (a .buffer .now) 0 s (l .i) 0 (omega arith) (simp length-drop (omega (arith, number-length (a .doubleword)))) in (
       simp length-set (omega arith),
       simp length-set (l .inv .1),
-      l .inv .2,
-      rw (l .inv .3, ← getD-drop (a .offset) (a .t1) (l .i) 0) (simp (zero-add, add-one) (simp zero-add at p)),
+      rw (c .byte .ensures, l .inv .2, ← getD-drop (a .offset) d (l .i) 0) (simp (zero-add, add-one) (simp zero-add at p)),
     )
 
-same-length : tie.Need-same-length Inv-loop μ-loop
-same-length c = omega arith
+same-length-2 : tie.Need-same-length-2 Inv-loop μ-loop
+same-length-2 c = omega arith
 
-returns : tie.Need-returns Inv-loop μ-loop
-returns c =
+returns-2 : tie.Need-returns-2 Inv-loop μ-loop
+returns-2 c =
     let l = c .before .loop in
-    let a = c .before .before .args in
+    let a = c .before .before .before .before .args in
     let e : l .i ≡ length (a .buffer .now) = omega arith in
-    l .inv .3 ∙ rw e (simp (zero-add, drop-length) (append-nil _))
+    l .inv .2 ∙ rw e (simp (zero-add, drop-length) (append-nil _))
 
 pub copy-out-spec : {M : Type 1} → statement M
 copy-out-spec =
@@ -65,12 +79,15 @@ copy-out-spec =
     (tie.spec
     Inv-loop
     μ-loop
+    copy-all-requires
+    same-length
+    returns
     loop-holds
-    add-buffer
-    array-read-buffer
+    add-byte
+    byte-requires
     slice-write-buffer
     add-i
     loop-less
     loop-again
-    same-length
-    returns)
+    same-length-2
+    returns-2)

@@ -1,6 +1,6 @@
 use native.Mathlib.Omega.{arith}
 use mathlib.Core.Path.{sym, _∙_}
-use Rattle.memory.specs.Access.{memory, scrub}
+use Rattle.calls.specs.Calls.{memory, scrub}
 use Rattle.parser.proofs.DigitLaws.{below-some, below-none}
 use Rattle.parser.proofs.FormatLaws.{scrub-is, one-lacks}
 use Prim.Native.Nat.{_-_, _^_}

@@ -1,7 +1,7 @@
 use native.Mathlib.Omega.{arith}
 use mathlib.Core.Path.{sym, _∙_}
 use lib.ListN.{drop, length-drop}
-use Rattle.memory.specs.Access.{memory, write}
+use Rattle.calls.specs.Calls.{memory, write}
 use Rattle.parser.specs.Digits.{bytesField}
 use Rattle.parser.proofs.DigitLaws.{below-some, below-none}
 use Rattle.parser.proofs.PlainLaws.{bytesField-plain}

@@ -1,7 +1,7 @@
 use native.Mathlib.Omega.{arith}
 use mathlib.Core.List.{[], _∷_}
 use lib.ListN.{length-set}
-use Rattle.print.proofs.PrintLaws.{laid-sets}
+use Rattle.print.proofs.PrintLaws.{start-sets}
 use borrow.Author.Needs.{needs}
 use Rattle.print.proofs.text.accepted.Statement.{statement}
 use Rattle.print.proofs.text.accepted.Tie as tie
@@ -22,7 +22,7 @@ same-length : tie.Need-same-length
 same-length c = search needs
 
 returns : tie.Need-returns
-returns c = (laid-sets (c .args .letter ∷ 0x2C ∷ 0x30 ∷ 0x0A ∷ []) (c .args .out .now) (omega arith), omega arith)
+returns c = start-sets (c .args .letter ∷ 0x2C ∷ 0x30 ∷ 0x0A ∷ []) (c .args .out .now) (omega arith)
 
 pub accepted-spec : {M : Type 1} → statement M
 accepted-spec =

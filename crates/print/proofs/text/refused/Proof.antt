@@ -3,8 +3,8 @@ use mathlib.Core.Path.{ap, _∙_}
 use mathlib.Core.List.{List, [], _∷_}
 use Prim.Native.Nat.{ℕ, _+_, _/_, _%_}
 use lib.ListN.{length-set}
-use Rattle.print.specs.Printed.{laid}
-use Rattle.print.proofs.PrintLaws.{laid-sets, refused-one, refused-two}
+use Rattle.print.specs.Printed.{atStart}
+use Rattle.print.proofs.PrintLaws.{start-sets, refused-one, refused-two}
 use borrow.Author.Needs.{needs}
 use Rattle.print.proofs.text.refused.Statement.{statement}
 use Rattle.print.proofs.text.refused.Tie as tie
@@ -30,7 +30,7 @@ same-length c = search needs
 returns : tie.Need-returns
 returns c =
     let a = c .before .args in
-    (laid-sets (a .letter ∷ 0x2C ∷ (0x30 + a .number) ∷ 0x0A ∷ []) (a .out .now) (omega arith) ∙ ap (λ (t : List ℕ). laid t (a .out .now)) (refused-one (a .letter) (a .number) (c .if1 .taken)), omega arith)
+    start-sets (a .letter ∷ 0x2C ∷ (0x30 + a .number) ∷ 0x0A ∷ []) (a .out .now) (omega arith) ∙ ap (λ (t : List ℕ). atStart t (a .out .now)) (refused-one (a .letter) (a .number) (c .if1 .taken))
 
 add-out-2 : tie.Need-add-out-2
 add-out-2 c = search needs
@@ -53,7 +53,7 @@ same-length-2 c = search needs
 returns-2 : tie.Need-returns-2
 returns-2 c =
     let a = c .before .args in
-    (laid-sets (a .letter ∷ 0x2C ∷ (0x30 + a .number / 10) ∷ (0x30 + a .number % 10) ∷ 0x0A ∷ []) (a .out .now) (omega arith) ∙ ap (λ (t : List ℕ). laid t (a .out .now)) (refused-two (a .letter) (a .number) (c .if1 .left)), omega arith)
+    start-sets (a .letter ∷ 0x2C ∷ (0x30 + a .number / 10) ∷ (0x30 + a .number % 10) ∷ 0x0A ∷ []) (a .out .now) (omega arith) ∙ ap (λ (t : List ℕ). atStart t (a .out .now)) (refused-two (a .letter) (a .number) (c .if1 .left))
 
 pub refused-spec : {M : Type 1} → statement M
 refused-spec =

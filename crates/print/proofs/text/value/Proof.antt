@@ -1,7 +1,7 @@
 use native.Mathlib.Omega.{arith}
 use mathlib.Core.List.{[], _∷_}
 use lib.ListN.{length-set}
-use Rattle.print.proofs.PrintLaws.{laid-sets}
+use Rattle.print.proofs.PrintLaws.{start-sets}
 use borrow.Author.Needs.{needs}
 use Rattle.print.proofs.text.value.Statement.{statement}
 use Rattle.print.proofs.text.value.Tie as tie
@@ -39,7 +39,7 @@ same-length c = search needs
 returns : tie.Need-returns
 returns c =
     let a = c .before .before .before .args in
-    (rw (← c .before .high-digit .ensures, ← c .low-digit .ensures) (laid-sets (0x67 ∷ 0x2C ∷ 0x30 ∷ 0x2C ∷ c .before .high-digit .result ∷ c .low-digit .result ∷ 0x0A ∷ []) (a .out .now) (omega arith)), omega arith)
+    rw (← c .before .high-digit .ensures, ← c .low-digit .ensures) (start-sets (0x67 ∷ 0x2C ∷ 0x30 ∷ 0x2C ∷ c .before .high-digit .result ∷ c .low-digit .result ∷ 0x0A ∷ []) (a .out .now) (omega arith))
 
 pub value-spec : {M : Type 1} → statement M
 value-spec =

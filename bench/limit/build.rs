@@ -1,0 +1,125 @@
+//! Writes the tables of `limit.c` and compiles it with gcc.
+use std::env;
+use std::fmt::{Display, Write};
+use std::fs;
+use std::path::{Path, PathBuf};
+use std::process::Command;
+
+/// The columns of data bits 0 to 63, then of the check bits.
+fn columns() -> Vec<u8> {
+    let three_ones = (0..=u8::MAX).filter(|column| column.count_ones() == 3);
+    let rest = [31, 47, 55, 59, 61, 62, 79, 87];
+    let check_bits = (0..8).map(|bit| 1 << bit);
+    three_ones.chain(rest).chain(check_bits).collect()
+}
+
+fn array<T: Display>(text: &mut String, kind: &str, name: &str, values: &[T]) {
+    let count = values.len();
+    write!(
+        text,
+        "static const {kind} {name}[{count}] __attribute__((aligned(64))) = {{"
+    )
+    .unwrap();
+    for (i, value) in values.iter().enumerate() {
+        let before = if i % 16 == 0 { "\n    " } else { " " };
+        write!(text, "{before}{value},").unwrap();
+    }
+    text.push_str("\n};\n");
+}
+
+/// CHECK: the check byte of a doubleword whose byte `i / 256` is `i % 256`, and whose other bytes are zero.
+fn check(columns: &[u8]) -> Vec<u8> {
+    let of_byte = |place: usize, value: usize| {
+        let ones = (0..8).filter(|bit| value >> (7 - bit) & 1 == 1);
+        ones.fold(0, |check, bit| check ^ columns[8 * place + bit])
+    };
+    (0..8 * 256).map(|i| of_byte(i / 256, i % 256)).collect()
+}
+
+/// KIND and FIX, by syndrome: clean, corrected or uncorrectable (1, 2, 3), and the data bit to be corrected, as a mask for the doubleword
+/// loaded with its first byte lowest.
+fn syndromes(columns: &[u8]) -> (Vec<u8>, Vec<String>) {
+    let (mut kind, mut fix) = (vec![3; 256], vec![0u64; 256]);
+    kind[0] = 1;
+    for (bit, &column) in columns.iter().enumerate() {
+        kind[usize::from(column)] = 2;
+        if bit < 64 {
+            fix[usize::from(column)] = 1 << (bit ^ 7);
+        }
+    }
+    (kind, fix.iter().map(|mask| format!("{mask:#x}u")).collect())
+}
+
+/// OFF, by the enable byte: FFFF for each disabled bank; then in how many pairs of banks the first starts above the end of the second, if the
+/// enabled spans are disjoint and a disabled bank starts and ends at -1. If no bank is enabled this is a number that never occurs.
+fn off() -> Vec<u32> {
+    let of_byte = |enabled: u32| {
+        let lanes = (0..8).map(move |bank| if enabled >> bank & 1 == 1 { 0 } else { 0xffff });
+        let on = enabled.count_ones();
+        let pairs = if on == 0 {
+            99
+        } else {
+            on * (on - 1) / 2 + on * (8 - on)
+        };
+        lanes.chain([pairs]).chain([0; 7])
+    };
+    (0..256).flat_map(of_byte).collect()
+}
+
+/// ROWS, by a byte of row codes: for its four banks the greatest length less 1, then the least size less 1.
+fn rows() -> Vec<u32> {
+    let of_byte = |byte: u32| {
+        let code = move |bank: u32| byte >> (2 * bank) & 3;
+        let longest = (0..4).map(move |bank| 2 * 4u32.pow(code(bank)) - 1);
+        let least = (0..4).map(move |bank| 2u32.pow(code(bank)) - 1);
+        longest.chain(least)
+    };
+    (0..256).flat_map(of_byte).collect()
+}
+
+/// BELOW, by the bank: FFFF for each lower bank.
+fn below() -> Vec<u32> {
+    (0..64)
+        .map(|i| if i % 8 < i / 8 { 0xffff } else { 0 })
+        .collect()
+}
+
+fn tables() -> String {
+    let columns = columns();
+    let (kind, fix) = syndromes(&columns);
+    let mut text = String::new();
+    array(&mut text, "uint8_t", "CHECK", &check(&columns));
+    array(&mut text, "uint8_t", "KIND", &kind);
+    array(&mut text, "uint64_t", "FIX", &fix);
+    array(&mut text, "uint16_t", "OFF", &off());
+    array(&mut text, "uint16_t", "ROWS", &rows());
+    array(&mut text, "uint16_t", "BELOW", &below());
+    text
+}
+
+fn run(command: &mut Command) {
+    let status = command.status().expect("the command starts");
+    assert!(status.success(), "{command:?} failed");
+}
+
+fn main() {
+    let out = PathBuf::from(env::var_os("OUT_DIR").expect("cargo sets it"));
+    let source = Path::new(env!("CARGO_MANIFEST_DIR")).join("limit.c");
+    println!("cargo:rerun-if-changed={}", source.display());
+    println!("cargo:rerun-if-changed=build.rs");
+    fs::write(out.join("tables.h"), tables()).expect("the tables are written");
+    let (object, library) = (out.join("limit.o"), out.join("liblimit.a"));
+    let flags = [
+        "-std=c11", "-O3", "-Wall", "-Wextra", "-Werror", "-fPIC", "-c",
+    ];
+    run(Command::new("gcc")
+        .args(flags)
+        .arg("-I")
+        .arg(&out)
+        .arg(&source)
+        .arg("-o")
+        .arg(&object));
+    run(Command::new("ar").arg("crs").arg(&library).arg(&object));
+    println!("cargo:rustc-link-search=native={}", out.display());
+    println!("cargo:rustc-link-lib=static=limit");
+}

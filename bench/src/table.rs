@@ -1,0 +1,118 @@
+//! The table of the least times.
+use std::hint::black_box;
+use std::time::Instant;
+
+const TURNS: usize = 9;
+
+/// Nanoseconds for each call: ours, the model's, and the limit's, which does not have every call.
+type Times = [Option<f64>; 3];
+
+/// A row to be timed: the set-up, the call, and what it is called with.
+#[derive(Clone, Copy)]
+pub struct Row<'a> {
+    pub group: &'static str,
+    pub name: &'static str,
+    pub inputs: &'a [u32],
+}
+
+/// The calls of one side, made with each input; none if the side has no such call.
+pub type Side<'a> = Option<&'a mut dyn FnMut(&[u32])>;
+
+struct Line {
+    group: &'static str,
+    name: &'static str,
+    least: Times,
+}
+
+pub struct Table {
+    lines: Vec<Line>,
+    next: usize,
+}
+
+/// Makes the calls once without a clock, then timed.
+fn nanoseconds(calls: &mut dyn FnMut(&[u32]), inputs: &[u32]) -> f64 {
+    calls(inputs);
+    let start = Instant::now();
+    calls(inputs);
+    start.elapsed().as_secs_f64() * 1e9 / inputs.len() as f64
+}
+
+/// A side's call as a loop over its inputs.
+pub fn over(mut call: impl FnMut(u32)) -> impl FnMut(&[u32]) {
+    move |inputs| {
+        for &input in inputs {
+            call(black_box(input));
+        }
+    }
+}
+
+impl Table {
+    pub fn new() -> Self {
+        Table {
+            lines: Vec::new(),
+            next: 0,
+        }
+    }
+
+    pub fn begin_pass(&mut self) {
+        self.next = 0;
+    }
+
+    /// Times one row: turns of each side, ours first.
+    pub fn row(&mut self, row: Row, mut sides: [Side; 3]) {
+        if self.next == self.lines.len() {
+            self.lines.push(Line {
+                group: row.group,
+                name: row.name,
+                least: [None; 3],
+            });
+        }
+        let line = &mut self.lines[self.next];
+        self.next += 1;
+        for _ in 0..TURNS {
+            for (side, least) in sides.iter_mut().zip(&mut line.least) {
+                let Some(side) = side else { continue };
+                let time = nanoseconds(side, row.inputs);
+                *least = Some(least.map_or(time, |before| before.min(time)));
+            }
+        }
+    }
+
+    pub fn print(&self) {
+        let mut group = "";
+        for line in &self.lines {
+            if line.group != group {
+                group = line.group;
+                print_titles(&format!("ns a call, {group}"));
+            }
+            print_line(line.name, line.least);
+        }
+    }
+}
+
+/// The head of a table, in Markdown.
+pub fn print_titles(title: &str) {
+    println!(
+        "\n| {title:<36} | {:>7} | {:>8} | {:>6} | {:>10} | {:>10} |",
+        "ours", "model", "limit", "ours/model", "ours/limit"
+    );
+    println!(
+        "|{:-<38}|{:->8}:|{:->9}:|{:->7}:|{:->11}:|{:->11}:|",
+        "", "", "", "", "", ""
+    );
+}
+
+pub fn print_line(name: &str, [ours, model, limit]: Times) {
+    let shown = |number: Option<f64>, places: usize| {
+        number.map_or_else(String::new, |x| format!("{x:.places$}"))
+    };
+    let ratio = |other: Option<f64>| shown(ours.zip(other).map(|(a, b)| a / b), 2);
+    println!(
+        "| {name:<36} | {:>7} | {:>8} | {:>6} | {:>10} | {:>10} |",
+        shown(ours, 1),
+        shown(model, 1),
+        shown(limit, 1),
+        ratio(model),
+        ratio(limit)
+    );
+}

@@ -1,0 +1,4 @@
+pub mod MegabyteLaws
+pub mod AlikeLaws
+pub mod BankLaws
+pub mod AlikeExamples

@@ -1,0 +1,23 @@
+use Prim.Native.Nat.{_*_, _%_, _^_}
+use mathlib.Core.Path.{_≡_}
+use native.Mathlib.Omega.{arith}
+use Rattle.alike.specs.CodeMegabyte.{samePart}
+use borrow.Author.Needs.{needs}
+use Rattle.alike.proofs.is_same_part.Statement.{statement}
+use Rattle.alike.proofs.is_same_part.Tie as tie
+
+row-requires : tie.Need-row-requires
+row-requires c κs = search needs
+
+row-requires-2 : tie.Need-row-requires-2
+row-requires-2 c κs = search needs
+
+returns : tie.Need-returns
+unfolding samePart
+returns c =
+    let m = c .before .before .before .before .args .m in
+    let s : m * 2 ^ 20 % 2 ^ 32 ≡ m * 2 ^ 20 = omega arith in
+    simp (c .row2 .ensures, c .before .row .ensures, s)
+
+pub is-same-part-spec : {M : Type 1} → statement M
+is-same-part-spec = tie.close (tie.spec row-requires row-requires-2 returns)

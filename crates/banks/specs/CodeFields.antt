@@ -1,0 +1,64 @@
+-- What the code takes out of a record: nineteen numbers, from which it reads each bank. Only contracts of functions private to the crate use them.
+use Prim.Native.Nat.{ℕ, zero, suc, _+_, _*_, _/_, _%_, _^_, _<_}
+use mathlib.Core.Bool.{cond}
+use mathlib.Core.List.{List, [], _∷_}
+use lib.ListN.{getD}
+use lib.Dec.{eqb}
+use Rattle.registers.specs.Record.{at}
+use Rattle.registers.specs.declared.Registers.{Registers}
+use Rattle.banks.specs.declared.Bank.{Bank}
+use Rattle.banks.specs.Setup.{Setup, fewestRows, startOf, lastOf, bankFrom, offBank}
+
+-- eight starts, eight last megabytes, the bank enables, both bytes of row codes, and F2
+unfoldable pub fieldsOf : Registers → List ℕ
+fieldsOf r =
+    startOf r 0
+    ∷ startOf r 1
+    ∷ startOf r 2
+    ∷ startOf r 3
+    ∷ startOf r 4
+    ∷ startOf r 5
+    ∷ startOf r 6
+    ∷ startOf r 7
+    ∷ lastOf r 0
+    ∷ lastOf r 1
+    ∷ lastOf r 2
+    ∷ lastOf r 3
+    ∷ lastOf r 4
+    ∷ lastOf r 5
+    ∷ lastOf r 6
+    ∷ lastOf r 7
+    ∷ at r 0xA0
+    ∷ (at r 0xF0 + 256 * at r 0xF1)
+    ∷ at r 0xF2
+    ∷ []
+
+-- the row bits of bank n
+unfoldable pub rowsIn : List ℕ → ℕ → ℕ
+rowsIn f n = fewestRows + getD f 17 0 / 2 ^ (2 * n) % 4
+
+-- bank n, as it is when enabled
+unfoldable pub enabledIn : List ℕ → ℕ → Bank
+enabledIn f n = bankFrom (getD f n 0) (getD f (8 + n) 0) (rowsIn f n)
+
+-- bank n
+unfoldable pub bankIn : List ℕ → ℕ → Bank
+bankIn f n = cond (eqb (getD f 16 0 / 2 ^ n % 2) 1) (enabledIn f n) offBank
+
+-- the set-up that the numbers describe; for those of a record it is the record's
+unfoldable pub setupIn : List ℕ → Setup
+setupIn f =
+    record {
+      on = eqb (getD f 18 0 / 2 ^ 3 % 2) 1;
+      banks = bankIn f 0 ∷ bankIn f 1 ∷ bankIn f 2 ∷ bankIn f 3 ∷ bankIn f 4 ∷ bankIn f 5 ∷ bankIn f 6 ∷ bankIn f 7 ∷ [];
+    }
+
+-- the first k numbers have ten bits
+abbrev pub FirstTenBits : ℕ → List ℕ → Type 0
+FirstTenBits zero f = Unit {0}
+FirstTenBits (suc k) [] = Unit {0}
+FirstTenBits (suc k) (x ∷ xs) = (x < 1024) × FirstTenBits k xs
+
+-- the sixteen starts and last megabytes have ten bits each
+abbrev pub TenBits : List ℕ → Type 0
+TenBits f = FirstTenBits 16 f

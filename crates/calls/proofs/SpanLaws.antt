@@ -1,0 +1,21 @@
+-- What holds of the arguments of a call if they do not cause a refusal.
+use Prim.Native.Nat.{ℕ, _+_, _%_, _≤_, _<_, suc-le-suc}
+use mathlib.Core.Path.{_≡_}
+use mathlib.Core.Bool.{_||_}
+use mathlib.Core.Option.{none}
+use mathlib.Core.List.{[], _∷_}
+use lib.Dec.{ltb, eqb}
+use borrow.Author.Tests.{ltb-false}
+use Rattle.refusals.specs.Paper.{refuse}
+use Rattle.refusals.proofs.ChainLaws.{else-right, cause-fails}
+use Rattle.calls.specs.Spans.{byCount, byBit}
+
+-- an access that gets neither 6 nor 7 stays inside its doubleword
+pub count-fits : (a n : ℕ) → byCount a n ≡ none → a % 8 + n ≤ 8
+unfolding byCount
+count-fits a n e = ltb-false _ _ (cause-fails _ _ (else-right (refuse (eqb n 0 || ltb 8 n) (6 ∷ [])) _ e))
+
+-- a bit that does not get 8 is one of the 72
+pub bit-fits : (b : ℕ) → byBit b ≡ none → b < 72
+unfolding byBit
+bit-fits b e = suc-le-suc (ltb-false 71 b (cause-fails (ltb 71 b) (8 ∷ []) e))

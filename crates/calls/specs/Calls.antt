@@ -1,0 +1,53 @@
+-- Memory calls, the accesses that they consist of, and what these give.
+use Prim.Native.Nat.{ℕ}
+use mathlib.Core.List.{List, [], _∷_}
+use Rattle.refusals.specs.Paper.{Outcome}
+use Rattle.calls.specs.declared.Kind.{Kind}
+
+-- MEM-1, MEM-2: a read has an address and a count, the length of its buffer; a write an address and bytes; a flip an address and a bit; a scrub an
+-- address
+pub data MemoryCall : Type 0 where
+  read : ℕ → ℕ → MemoryCall
+  write : ℕ → List ℕ → MemoryCall
+  flip : ℕ → ℕ → MemoryCall
+  scrub : ℕ → MemoryCall
+
+-- MEM-1: an access, which stays inside one doubleword
+pub data Access : Type 0 where
+  readIn : ℕ → ℕ → Access
+  writeIn : ℕ → List ℕ → Access
+  flipIn : ℕ → ℕ → Access
+  scrubIn : ℕ → Access
+
+-- the address of an access
+abbrev pub addressOf : Access → ℕ
+addressOf (readIn a n) = a
+addressOf (writeIn a bs) = a
+addressOf (flipIn a b) = a
+addressOf (scrubIn a) = a
+
+-- MEM-1: the accesses of a call, in order; here each call is one access
+unfoldable pub parts : MemoryCall → List Access
+parts (read a n) = readIn a n ∷ []
+parts (write a bs) = writeIn a bs ∷ []
+parts (flip a b) = flipIn a b ∷ []
+parts (scrub a) = scrubIn a ∷ []
+
+-- LIST-9: what an accepted access gives: its answer, and the bytes that a read puts in its buffer
+pub record Got : Type 0 where
+  pub kind : Kind
+  pub bytes : List ℕ
+
+-- the same, made from its two parts
+abbrev pub got : Kind → List ℕ → Got
+got k bs = record { kind = k; bytes = bs }
+
+-- LIST-8, LIST-9: what a memory call gives: a refusal with all that it returns, or what each of its accesses gives
+abbrev pub Given : Type 0
+Given = Outcome (List Got)
+
+-- LIST-1: a call of a list: a memory call, or a register read or write
+pub data Call : Type 0 where
+  memory : MemoryCall → Call
+  readRegister : ℕ → Call
+  writeRegister : ℕ → ℕ → Call

@@ -1,0 +1,4 @@
+pub mod Calls
+pub mod Spans
+pub mod Answers
+pub mod State

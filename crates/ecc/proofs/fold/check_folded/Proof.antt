@@ -1,0 +1,26 @@
+use mathlib.Core.Path.{ap, _∙_}
+use native.Mathlib.Omega.{arith}
+use Rattle.ecc.specs.CodeFold.{parities, gathered, foldedCheck}
+use Rattle.ecc.proofs.FoldLaws.{fold-is-check}
+use borrow.Author.Needs.{needs}
+use Rattle.ecc.proofs.fold.check_folded.Statement.{statement}
+use Rattle.ecc.proofs.fold.check_folded.Tie as tie
+
+folded-word-requires : tie.Need-folded-word-requires
+folded-word-requires c κs = search needs
+
+parities-requires : tie.Need-parities-requires
+parities-requires c κs = search needs
+
+gathered-requires : tie.Need-gathered-requires
+gathered-requires c κs = search needs
+
+returns : tie.Need-returns
+unfolding foldedCheck
+returns c =
+    c .gathered .ensures ∙ ap gathered (c .before .parities .ensures ∙ ap parities (c .before .before .folded-word .ensures))
+    ∙ fold-is-check (c .before .before .before .args .doubleword) (omega arith)
+
+pub check-folded-spec : {M : Type 1} → statement M
+check-folded-spec =
+    tie.close (tie.spec folded-word-requires parities-requires gathered-requires returns)

@@ -1,0 +1,27 @@
+use native.Mathlib.Omega.{arith}
+use Rattle.ecc.specs.Columns.{columns}
+use Rattle.calls.specs.State.{state}
+use Rattle.lines.proofs.LineLaws.{line-printed, register-read-line}
+use borrow.Author.Needs.{needs}
+use Rattle.lines.proofs.line.register_read_line.Statement.{statement}
+use Rattle.lines.proofs.line.register_read_line.Tie as tie
+
+read-requires : tie.Need-read-requires
+read-requires c κs = search needs
+
+register-read-requires : tie.Need-register-read-requires
+register-read-requires c κs = search needs
+
+same-length : tie.Need-same-length
+same-length c = search needs
+
+returns : tie.Need-returns
+returns c =
+    let a = c .before .before .before .before .before .before .args in
+    let r = c .before .before .before .before .read in
+    let p = c .before .before .register-read in
+    λ cells. line-printed (p .result) (a .out .now) (p .last .1 .0) _ (state (a .registers) cells) _ (omega arith) (p .ensures) (register-read-line columns (a .registers) cells (a .offset) (r .result) (r .ensures))
+
+pub register-read-line-spec : {M : Type 1} → statement M
+register-read-line-spec =
+    tie.close (tie.spec read-requires register-read-requires same-length returns)

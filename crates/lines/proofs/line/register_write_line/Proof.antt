@@ -1,0 +1,27 @@
+use native.Mathlib.Omega.{arith}
+use Rattle.ecc.specs.Columns.{columns}
+use Rattle.calls.specs.State.{state}
+use Rattle.lines.proofs.LineLaws.{line-printed, register-write-line}
+use borrow.Author.Needs.{needs}
+use Rattle.lines.proofs.line.register_write_line.Statement.{statement}
+use Rattle.lines.proofs.line.register_write_line.Tie as tie
+
+write-requires : tie.Need-write-requires
+write-requires c κs = search needs
+
+register-write-requires : tie.Need-register-write-requires
+register-write-requires c κs = search needs
+
+same-length : tie.Need-same-length
+same-length c = search needs
+
+returns : tie.Need-returns
+returns c =
+    let a = c .before .before .before .before .before .before .before .args in
+    let w = c .before .before .before .before .before .write in
+    let p = c .before .before .register-write in
+    λ cells. line-printed (p .result) (a .out .now) (p .last .1 .0) _ (state (w .result .registers) cells) _ (omega arith) (p .ensures) (register-write-line columns (a .registers) cells (a .offset) (a .value) (w .result) (w .ensures))
+
+pub register-write-line-spec : {M : Type 1} → statement M
+register-write-line-spec =
+    tie.close (tie.spec write-requires register-write-requires same-length returns)

@@ -1,0 +1,2 @@
+pub mod SetupLaws
+pub mod LendingLaws

@@ -1,0 +1,13 @@
+-- The error registers are not part of the set-up: what an answer does to the record changes no judgement and no map.
+use Prim.Native.Nat.{ℕ}
+use mathlib.Core.Path.{_≡_}
+use native.Mathlib.Omega.{arith}
+use Rattle.registers.specs.declared.Registers.{Registers}
+use Rattle.calls.specs.declared.Kind.{Kind}
+use Rattle.banks.specs.Setup.{setupOf}
+use Rattle.banks.proofs.StoreLaws.{setup-between}
+use Rattle.error_registers.specs.Errors.{reported}
+use Rattle.error_registers.proofs.ErrorLaws.{reported-keeps}
+
+pub setup-reported : (k : Kind) (a : ℕ) (r : Registers) → setupOf (reported k a r) ≡ setupOf r
+setup-reported = reported-keeps setupOf (λ r o v l h. setup-between r o v (omega arith) (omega arith))

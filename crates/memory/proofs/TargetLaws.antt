@@ -1,0 +1,40 @@
+-- What an access stores, as the code decides it; and lists that the code builds.
+use Prim.Native.Nat.{ℕ, zero, suc, _≤_}
+use mathlib.Core.Path.{_≡_, refl, ap}
+use mathlib.Core.Bool.{cond, not}
+use mathlib.Core.List.{List, [], _∷_}
+use native.Mathlib.Omega.{arith}
+use lib.ListN.{take, replicate}
+use Rattle.ecc.specs.declared.Reading.{Reading}
+use Rattle.ecc.specs.declared.Reading.the-variants as reading
+use Rattle.ecc.specs.Columns.{columns, columnsFor}
+use Rattle.ecc.specs.Doubleword.{lowBytes, bytesOfNumber}
+use Rattle.ecc.specs.Lending.{putCell}
+use Rattle.machine.specs.Cells.{unlessLost, ifCorrected}
+use Rattle.machine.specs.Calls.{putAt}
+use Rattle.memory.specs.CodeJudged.{isLost, isCorrected}
+
+pub put-right : (rd : Reading) (cell cells : List ℕ) (k : ℕ) → putAt (unlessLost rd cell) cells k ≡ cond (not (isLost rd)) (putCell cells k cell) cells
+put-right reading.Clean cell cells k = refl
+put-right (reading.Corrected b) cell cells k = refl
+put-right reading.Uncorrectable cell cells k = refl
+
+pub put-corrected : (rd : Reading) (cell cells : List ℕ) (k : ℕ) → putAt (ifCorrected rd cell) cells k ≡ cond (isCorrected rd) (putCell cells k cell) cells
+put-corrected reading.Clean cell cells k = refl
+put-corrected (reading.Corrected b) cell cells k = refl
+put-corrected reading.Uncorrectable cell cells k = refl
+
+take-same : (n m v : ℕ) → n ≤ m → take n (replicate m v) ≡ replicate n v
+take-same zero m v h = refl
+take-same (suc n) zero v h = absurd (omega arith)
+take-same (suc n) (suc m) v h = ap (λ (x : List ℕ). v ∷ x) (take-same n m v (omega arith))
+
+-- if no columns are lent, those of ECC-2 are used
+pub no-columns : columnsFor [] ≡ columns
+unfolding columnsFor
+no-columns = refl
+
+-- MEM-9: a read that selects no bank puts FF in each byte of its buffer
+pub ones-taken : (n : ℕ) → n ≤ 8 → take n (bytesOfNumber 0xFFFFFFFFFFFFFFFF) ≡ replicate n 0xFF
+unfolding bytesOfNumber lowBytes
+ones-taken n h = take-same n 8 0xFF h

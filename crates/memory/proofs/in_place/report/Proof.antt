@@ -1,0 +1,19 @@
+use mathlib.Core.Path.{ap}
+use Prim.Native.Nat.{ℕ}
+use mathlib.Core.List.{List}
+use Rattle.registers.specs.Record.{recordOf}
+use borrow.Author.Needs.{needs}
+use Rattle.memory.proofs.in_place.report.Statement.{statement}
+use Rattle.memory.proofs.in_place.report.Tie as tie
+
+report-requires : tie.Need-report-requires
+report-requires c κs = search needs
+
+answer-requires : tie.Need-answer-requires
+answer-requires c κs = search needs
+
+returns : tie.Need-returns
+returns c = (c .answer .ensures, ap recordOf (c .before .report .ensures))
+
+pub report-spec : {M : Type 1} → statement M
+report-spec = tie.close (tie.spec report-requires answer-requires returns)

@@ -1,0 +1,135 @@
+// The calls. Each is judged before its access is performed; the answer of the access is then reported to the error registers.
+ghost use mathlib.Core.Path.{_≡_};
+ghost use mathlib.Core.List.{[], _∷_};
+ghost use Rattle.refusals.specs.Paper.{paper, refused, given};
+ghost use Rattle.registers.specs.Record.{recordOf};
+ghost use Rattle.ecc.specs.Columns.{columns};
+ghost use Rattle.error_registers.specs.Errors.{reported};
+ghost use Rattle.calls.specs.State.{state};
+ghost use Rattle.calls.specs.Answers.{paperAnswer, leaves};
+ghost use Rattle.machine.specs.Calls.{readCall, writeCall, flipCall, scrubCall};
+use crate::access;
+use crate::bytes::copy_out;
+use crate::judge::Judged;
+use crate::judge::judge;
+use crate::judge::judge_bit;
+use crate::judge::judge_count;
+use calls::Answer;
+use calls::Kind;
+use calls::Part;
+use refusals::Refusal;
+use refusals::Verdict;
+use registers::Registers;
+
+// No columns are lent, so those of the check code are the columns of ECC-2.
+const NO_COLUMNS: [u8; 0] = [];
+
+fn refuse(x: Refusal) -> Answer
+    ensures { λ a. ⌜ paperAnswer a ≡ refused (paper x) ⌝ }
+{
+    Answer {
+        verdict: Verdict::Refused(x),
+        count: 0,
+        parts: [Part { kind: Kind::Clean }; 4],
+    }
+}
+
+// The answer of a call that consists of one access.
+fn answer(kind: Kind) -> Answer
+    ensures { λ a. ⌜ paperAnswer a ≡ given (kind ∷ []) ⌝ }
+{
+    let clean = Part { kind: Kind::Clean };
+    Answer {
+        verdict: Verdict::Accepted,
+        count: 1,
+        parts: [Part { kind: kind }, clean, clean, clean],
+    }
+}
+
+// MEM-10: reports the answer of an access to the error registers.
+fn report(registers: &mut [u8; 256], kind: Kind, address: u32) -> Answer
+    ensures { λ a. ⌜ paperAnswer a ≡ given (kind ∷ []) ⌝ }
+    ensures { λ _. ⌜ recordOf (now (registers .exit)) ≡ reported kind address (recordOf (now (registers .entry))) ⌝ }
+{
+    error_registers::report(registers, kind, address);
+    answer(kind)
+}
+
+pub fn read_in_place(
+    registers: &mut [u8; 256],
+    cells: &[u8],
+    address: u32,
+    buffer: &mut [u8],
+) -> Answer
+    ensures { λ x. ⌜ leaves x (state (recordOf (now (registers .exit))) (now (cells .entry))) (now (buffer .exit)) ≡ readCall columns (state (recordOf (now (registers .entry))) (now (cells .entry))) address (now (buffer .entry)) ⌝ }
+{
+    let arguments = judge_count(address, buffer.len());
+    let judged = judge(Registers { bytes: *registers }, cells, address, arguments);
+    match judged {
+        Judged::Refused(x) => refuse(x),
+        Judged::NoBank => {
+            copy_out(0xffffffffffffffff, 0, buffer);
+            report(registers, Kind::NoBank, address)
+        }
+        Judged::Cell(k) => {
+            let kind = access::read_cell(&NO_COLUMNS, cells, k, address, buffer);
+            report(registers, kind, address)
+        }
+    }
+}
+
+pub fn write_in_place(
+    registers: &mut [u8; 256],
+    cells: &mut [u8],
+    address: u32,
+    bytes: &[u8],
+) -> Answer
+    ensures { λ x. ⌜ leaves x (state (recordOf (now (registers .exit))) (now (cells .exit))) [] ≡ writeCall columns (state (recordOf (now (registers .entry))) (now (cells .entry))) address (now (bytes .entry)) ⌝ }
+{
+    let arguments = judge_count(address, bytes.len());
+    let judged = judge(Registers { bytes: *registers }, cells, address, arguments);
+    match judged {
+        Judged::Refused(x) => refuse(x),
+        Judged::NoBank => report(registers, Kind::NoBank, address),
+        Judged::Cell(k) => {
+            let kind = access::write_cell(&NO_COLUMNS, cells, k, address, bytes);
+            report(registers, kind, address)
+        }
+    }
+}
+
+// ERR-8: a flip changes no register.
+pub fn flip_in_place(registers: &[u8; 256], cells: &mut [u8], address: u32, bit: u32) -> Answer
+    ensures { λ x. ⌜ leaves x (state (recordOf (now (registers .entry))) (now (cells .exit))) [] ≡ flipCall columns (state (recordOf (now (registers .entry))) (now (cells .entry))) address bit ⌝ }
+{
+    let judged = judge(
+        Registers { bytes: *registers },
+        cells,
+        address,
+        judge_bit(bit),
+    );
+    match judged {
+        Judged::Refused(x) => refuse(x),
+        Judged::NoBank => refuse(Refusal::FlipWithoutBank),
+        Judged::Cell(k) => answer(access::flip_cell(cells, k, address, bit)),
+    }
+}
+
+pub fn scrub_in_place(registers: &mut [u8; 256], cells: &mut [u8], address: u32) -> Answer
+    ensures { λ x. ⌜ leaves x (state (recordOf (now (registers .exit))) (now (cells .exit))) [] ≡ scrubCall columns (state (recordOf (now (registers .entry))) (now (cells .entry))) address ⌝ }
+{
+    let judged = judge(
+        Registers { bytes: *registers },
+        cells,
+        address,
+        Verdict::Accepted,
+    );
+    match judged {
+        Judged::Refused(x) => refuse(x),
+        Judged::NoBank => report(registers, Kind::NoBank, address),
+        Judged::Cell(k) => {
+            let kind = access::scrub_cell(&NO_COLUMNS, cells, k, address);
+            report(registers, kind, address)
+        }
+    }
+}

@@ -1,0 +1,64 @@
+use native.Mathlib.Omega.{arith}
+use mathlib.Core.Path.{sym, ap, _∙_}
+use mathlib.Core.List.{List}
+use Prim.Native.Nat.{ℕ}
+use lib.ListN.{take}
+use Rattle.refusals.specs.declared.Verdict.{Verdict}
+use Rattle.calls.specs.Answers.{kindsIn, unlessRefused}
+use Rattle.print.specs.Output.{outcomeText, refusedText, kindsText}
+use Rattle.print.proofs.PrintLaws.{print-none, print-is}
+use borrow.Author.Needs.{needs}
+use borrow.Author.Needs.{needs}
+use Rattle.print.proofs.kinds.Statement.{statement}
+use Rattle.print.proofs.kinds.Tie as tie
+
+returns : tie.Need-returns
+returns c = print-none _ (c .before .before .args .out .now) (omega arith)
+
+enum-known-verdict : tie.Need-enum-known-verdict
+enum-known-verdict c = search needs
+
+number-requires : tie.Need-number-requires
+number-requires c κs = search needs
+
+refused-requires : tie.Need-refused-requires
+refused-requires c κs = search needs
+
+enum-told : tie.Need-enum-told
+enum-told c = search needs
+
+kinds-requires : tie.Need-kinds-requires
+kinds-requires c κs = search needs
+
+same-length : tie.Need-same-length
+same-length c = search needs
+
+returns-2 : tie.Need-returns-2
+returns-2 c =
+    let a = c .before .before .before .before .before .before .before .before .before .before .args in
+    let text : Verdict → List ℕ = λ v. outcomeText (a .letter) kindsText (unlessRefused v (kindsIn (take (a .answer .count) (a .answer .parts)))) in
+    print-is _ _ (text (a .answer .verdict)) (a .out .now) _ (omega arith) (c .before .before .refused .ensures) (ap (refusedText (a .letter)) (c .before .before .before .before .number .ensures) ∙ sym (ap text (c .before .before .before .before .before .before .verdict .given .1)))
+
+same-length-2 : tie.Need-same-length-2
+same-length-2 c = search needs
+
+returns-3 : tie.Need-returns-3
+returns-3 c =
+    let a = c .before .before .before .before .before .before .before .before .before .args in
+    let text : Verdict → List ℕ = λ v. outcomeText (a .letter) kindsText (unlessRefused v (kindsIn (take (a .answer .count) (a .answer .parts)))) in
+    print-is _ _ (text (a .answer .verdict)) (a .out .now) _ (omega arith) (c .before .before .kinds .ensures) (sym (ap text (c .before .before .before .before .before .enum-told .given .1)))
+
+pub kinds-spec : {M : Type 1} → statement M
+kinds-spec =
+    tie.close
+    (tie.spec
+    returns
+    enum-known-verdict
+    number-requires
+    refused-requires
+    enum-told
+    kinds-requires
+    same-length
+    returns-2
+    same-length-2
+    returns-3)

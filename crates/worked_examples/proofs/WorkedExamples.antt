@@ -1,0 +1,41 @@
+-- EX-1, EX-2, EX-4 to EX-6, EX-8: the worked examples marked † in the specification, proved of the definitions in one theorem.
+use mathlib.Core.Path.{_≡_, refl}
+use mathlib.Core.List.{[], _∷_}
+use mathlib.Core.Option.{some}
+use native.Mathlib.Omega.{arith}
+use lib.ListN.{replicate}
+use Rattle.basics.specs.Range.{firstOf, first, sum}
+use Rattle.refusals.specs.Paper.{given, refused}
+use Rattle.banks.specs.Setup.{startOf, lastOf, enabledOf, rowBits, megabytes, fits, columnBits, enabledBank, bankOf, setupOf, bank}
+use Rattle.banks.specs.Judge.{lowest, inverted, tooLong, faulty, faultOf, meets, meetsLower, lowestMeeting, judged, ready, notReady}
+use Rattle.banks.specs.Map.{holds, bankAt, cells, cellInBank, rowOf, columnOf, share, cellsBelow, placeOf, inSpan, located, mapped}
+use Rattle.banks.specs.WayBack.{spanEnd, inRange, addressAt, back}
+use Rattle.banks.proofs.WayBackLaws.{address-none}
+use Rattle.ecc.specs.declared.Reading.the-variants.{Corrected, Uncorrectable}
+use Rattle.ecc.specs.Columns.{columns}
+use Rattle.ecc.specs.CheckCode.{bitAt, dataBit, flipColumn, xorOf, checkOf, bitReading, readingOf}
+use Rattle.worked_examples.specs.TwoBanks.{twoBanks, setup}
+
+-- EX-8, by the law of the way back, since the definition tries each doubleword of the span
+no-address : back setup 1 (record { 0 = 256 }) (record { 0 = 0 }) ≡ refused (17 ∷ [])
+unfolding twoBanks startOf lastOf enabledOf rowBits megabytes fits columnBits enabledBank bankOf setupOf lowest inverted tooLong faulty faultOf meets
+    meetsLower lowestMeeting judged ready notReady firstOf first cells spanEnd inRange addressAt back
+no-address = address-none (bank setup 1) (record { 0 = 256 }) (record { 0 = 0 }) refl (omega arith)
+
+pub worked-examples :
+    (checkOf columns (replicate 8 0) ≡ 0x00)
+    × (checkOf columns (0x80 ∷ replicate 7 0) ≡ 0x07)
+    × (checkOf columns (0xFF ∷ replicate 7 0) ≡ 0x06)
+    × (checkOf columns (0 ∷ 0 ∷ 0 ∷ 0 ∷ 0 ∷ 0 ∷ 0 ∷ 1 ∷ []) ≡ 0x57)
+    × (checkOf columns (replicate 8 0xFF) ≡ 0xD8)
+    × (readingOf columns 0x03 ≡ Uncorrectable)
+    × (readingOf columns 0x40 ≡ Corrected 70)
+    × (readingOf columns 0x1F ≡ Corrected 56)
+    × (mapped setup 0x00001008 ≡ given (some (record { bank = 0; row = record { 0 = 1 }; column = record { 0 = 1 }; cell = 513 })))
+    × (mapped setup 0x00200000 ≡ given (some (record { bank = 1; row = record { 0 = 512 }; column = record { 0 = 0 }; cell = 524288 })))
+    × (mapped setup 0x00400000 ≡ given (some (record { bank = 1; row = record { 0 = 0 }; column = record { 0 = 0 }; cell = 262144 })))
+    × (back setup 1 (record { 0 = 256 }) (record { 0 = 0 }) ≡ refused (17 ∷ []))
+unfolding bitAt dataBit flipColumn xorOf checkOf bitReading readingOf firstOf first sum twoBanks startOf lastOf enabledOf rowBits megabytes
+    fits columnBits enabledBank bankOf setupOf lowest inverted tooLong faulty faultOf meets meetsLower lowestMeeting judged ready notReady holds bankAt cells
+    cellInBank rowOf columnOf share cellsBelow placeOf inSpan located mapped
+worked-examples = (refl, refl, refl, refl, refl, refl, refl, refl, refl, refl, refl, no-address)
