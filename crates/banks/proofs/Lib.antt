@@ -7,6 +7,7 @@ pub mod StoreLaws
 pub mod SpanLaws
 pub mod AcceptedLaws
 pub mod CellLaws
+pub mod PairLaws
 pub mod PassLaws
 pub mod SelectionLaws
 pub mod MapLaws

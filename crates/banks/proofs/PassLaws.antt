@@ -191,10 +191,13 @@ unfolding lowest
 lowest-first f = first-ext (λ k. isEnabled (bank (setupIn f) k)) (isSet (getD f 16 0)) 8 0 (λ j _ l. enabled-at f j l)
 
 module _ (f : List ℕ) (mb n b k base high : ℕ) (ordered : Bool) (p : Standing f mb n b k base high ordered) (l : n < 8) where
+  pub set-at : isSet (getD f 16 0) n ≡ true
+  set-at = sym (enabled-at f n l) ∙ p .enabled l
+
   -- the bank where it stands
   bank-here : bank (setupIn f) n ≡ enabledIn f n
   unfolding bankIn
-  bank-here = let t = sym (enabled-at f n l) ∙ p .enabled l in rw (bank-in f n l, t)
+  bank-here = rw (bank-in f n l, set-at)
 
   starts-here : bank (setupIn f) n .start ≡ getD f n 0
   unfolding enabledIn

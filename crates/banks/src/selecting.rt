@@ -1,19 +1,19 @@
 // One pass over the enabled banks judges them and finds the bank of a megabyte.
 ghost use mathlib.Core.Path.{_≡_};
-ghost use mathlib.Core.Bool.{true, cond};
+ghost use mathlib.Core.Bool.{true, not, cond, _&&_};
 ghost use mathlib.Core.Option.{none, some};
-ghost use Prim.Native.Nat.{_+_, _*_, _/_, _%_, _^_, _≤_, _<_};
-ghost use lib.Dec.{ltb, leb, eqb};
-ghost use Rattle.basics.specs.Range.{first};
+ghost use Prim.Native.Nat.{_≤_, _<_};
+ghost use lib.Dec.{ltb, leb};
 ghost use Rattle.refusals.specs.Paper.{given, _gives_};
-ghost use Rattle.banks.specs.Judge.{lowestMeeting, notReady};
+ghost use Rattle.banks.specs.Judge.{meets, meetsLower, lowestMeeting, notReady};
+ghost use Rattle.banks.specs.Setup.{bank};
 ghost use Rattle.banks.specs.Map.{mostCells};
 ghost use Rattle.banks.specs.CodeFields.{TenBits, enabledIn, setupIn};
 ghost use Rattle.banks.specs.CodeSelection.{cellsUnlessFaulty, selection, paperSelection};
-use crate::judging::lowest_meeting;
 use crate::setup::CODES;
 use crate::setup::ENABLE;
 use crate::setup::FIELDS;
+use crate::setup::bit;
 use crate::setup::choose;
 use crate::setup::memory_on;
 use crate::setup::power;
@@ -46,23 +46,47 @@ fn size_of(fields: &[u16; FIELDS], n: u32) -> u32
     0
 }
 
-// The lowest enabled bank from n on, or 8.
-fn next_enabled(enable: u16, n: u32) -> u32
-    requires { ⌜ n ≤ 8 ⌝ }
-    ensures { λ m. ⌜ m ≡ first (λ k. eqb (enable / 2 ^ k % 2) 1) 8 n ⌝ }
+// Banks n and m are enabled, and their spans meet.
+fn is_meeting(fields: &[u16; FIELDS], n: u8, m: u8) -> bool
+    requires { ⌜ (n < 8) × (m < 8) ⌝ }
+    ensures { λ t. ⌜ t ≡ bank (setupIn (now (fields .entry))) n .enabled && meets (bank (setupIn (now (fields .entry))) n) (bank (setupIn (now (fields .entry))) m) ⌝ }
 {
-    n + u32::trailing_zeros(((enable % 256) as u32 + 256) >> n)
+    let enable = fields[ENABLE];
+    let reaches = fields[m as usize] <= fields[(8 + n) as usize];
+    (bit(enable, n) & bit(enable, m)) & (reaches & (fields[n as usize] <= fields[(8 + m) as usize]))
+}
+
+// Bank n meets no lower one. There are no branches, so that many pairs are compared at once.
+fn is_clear(fields: &[u16; FIELDS], n: u8) -> bool
+    requires { ⌜ n < 8 ⌝ }
+    ensures { λ t. ⌜ t ≡ not (meetsLower (setupIn (now (fields .entry))) n) ⌝ }
+{
+    let mut clear = true;
+    for m in 0..n {
+        clear = clear & !is_meeting(fields, n, m);
+    }
+    clear
+}
+
+fn none_meets(fields: &[u16; FIELDS]) -> bool
+    ensures { λ t. ⌜ t ≡ leb 8 (lowestMeeting (setupIn (now (fields .entry)))) ⌝ }
+{
+    let mut clear = true;
+    for n in 0..8u8 {
+        clear = clear & is_clear(fields, n);
+    }
+    clear
 }
 
 // No enabled bank shares a megabyte with a lower one. If that is known already, nothing is searched.
 fn is_apart(fields: &[u16; FIELDS], known: bool) -> bool
-    requires { ⌜ TenBits (now fields) × (known ≡ true → 8 ≤ lowestMeeting (setupIn (now fields))) ⌝ }
+    requires { ⌜ (known ≡ true → 8 ≤ lowestMeeting (setupIn (now fields))) ⌝ }
     ensures { λ t. ⌜ t ≡ leb 8 (lowestMeeting (setupIn (now (fields .entry)))) ⌝ }
 {
     if known {
         return true;
     }
-    8 <= lowest_meeting(fields)
+    none_meets(fields)
 }
 
 fn selection_of(bank: u32, base: u32) -> Selection
@@ -81,8 +105,9 @@ pub(crate) fn select(fields: &[u16; FIELDS], mb: u32) -> Selection
     if !memory_on(fields) {
         return Selection::NotReady;
     }
-    let enable = fields[ENABLE];
-    let mut n = next_enabled(enable, 0);
+    // The enable bits of banks that are not passed, and a ninth, which ends the pass.
+    let mut rest = (fields[ENABLE] % 256) as u32 + 256;
+    let mut n = u32::trailing_zeros(rest);
     if 8 <= n {
         return Selection::NotReady;
     }
@@ -104,7 +129,8 @@ pub(crate) fn select(fields: &[u16; FIELDS], mb: u32) -> Selection
         is_ordered = is_ordered & (high <= start);
         high = last + 1;
         base += size;
-        n = next_enabled(enable, n + 1);
+        rest = rest & (rest - 1);
+        n = u32::trailing_zeros(rest);
     }
     if is_apart(fields, is_ordered) {
         return selection_of(bank, first);

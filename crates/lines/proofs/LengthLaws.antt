@@ -24,7 +24,7 @@ use Rattle.machine.specs.Calls.{setup, spansOf, unlent, refusal, onTarget, acce
 use Rattle.parser.specs.Format.{parse}
 use Rattle.print.specs.Digits.{decimal, hexPairs}
 use Rattle.print.specs.Output.{refusedText, letterOf, malformedText, registerWriteText, registerReadText, answerText, callText}
-use Rattle.print.specs.Printed.{longestOutputLine}
+use Rattle.print.specs.CodePrinted.{longestOutputLine}
 use Rattle.print.proofs.PrintLaws.{pairs-length}
 use Rattle.lines.specs.Line.{callOf, orMalformed, lineOf}
 

@@ -1,32 +1,37 @@
 -- What a line prints and leaves, from what its call returned.
 use mathlib.Core.Path.{_≡_, refl, sym, ap, _∙_}
+use mathlib.Core.Bool.{true}
 use mathlib.Core.List.{List, [], _∷_}
 use mathlib.Core.Option.{Option, none, some}
 use Prim.Native.Nat.{ℕ, _<_, _≤_}
 use native.Mathlib.Omega.{arith}
 use lib.ListN.{length, take}
-use borrow.Author.Tests.{lt-ltb, ne-eqb, le-leb, lt-leb}
+use borrow.Author.Tests.{lt-ltb, ne-eqb, le-leb, lt-leb, not-false}
 use Rattle.refusals.specs.Paper.{Declined, _else_, paperVerdict, Outcome, refused, given}
+use Rattle.refusals.proofs.ChainLaws.{else-left, else-right, cause-fails}
 use Rattle.registers.specs.declared.Registers.{Registers}
 use Rattle.register_calls.specs.declared.RegisterRead.{RegisterRead}
 use Rattle.register_calls.specs.declared.Written.{Written}
 use Rattle.register_calls.specs.Calls.{readAt, writeAt, paperWritten, paperRegisterRead}
 use Rattle.calls.specs.declared.Answer.{Answer}
-use Rattle.calls.specs.Calls.{MemoryCall, read, Given, Call, memory, readRegister, writeRegister}
-use Rattle.calls.specs.Spans.{byCall, byArguments, byCount}
+use Rattle.calls.specs.Calls.{MemoryCall, read, flip, flipIn, parts, Given, Call, memory, readRegister, writeRegister}
+use Rattle.calls.specs.Spans.{byCall, byArguments, byCount, bySpans}
 use Rattle.calls.specs.State.{State, state}
 use Rattle.calls.specs.Answers.{Effect, paperAnswer, leaves, effectOf}
 use Rattle.banks.specs.Judge.{notReady}
-use Rattle.machine.specs.Calls.{setup, refusal, performed, memoryCall, called}
+use Rattle.banks.specs.Map.{inSpan, located, cellOf}
+use Rattle.error_registers.specs.Errors.{reported}
+use Rattle.machine.specs.Cells.{onCell}
+use Rattle.machine.specs.Calls.{setup, spansOf, unlent, refusal, onTarget, accessAt, access, accesses, performed, memoryCall, called}
 use Rattle.parser.specs.declared.request.Parsed.{Parsed}
 use Rattle.parser.specs.declared.request.Request.{Request}
-use Rattle.parser.specs.Parsed.{asked, meant}
+use Rattle.parser.specs.CodeParsed.{asked, meant}
 use Rattle.parser.specs.Format.{parse}
 use Rattle.print.specs.Output.{registerWriteText, registerReadText, callText}
-use Rattle.print.specs.Printed.{longestOutputLine, printInto, kindsLine}
+use Rattle.print.specs.CodePrinted.{longestOutputLine, printInto, kindsLine}
 use Rattle.print.proofs.PrintLaws.{print-start}
 use Rattle.lines.specs.Line.{Printed, printedEffect, callOf, orMalformed, lineOf}
-use Rattle.lines.specs.Printed.{LineEffect, printedInto, lineInto}
+use Rattle.lines.specs.CodePrinted.{LineEffect, printedInto, lineInto}
 
 -- ---- a memory call
 
@@ -45,6 +50,40 @@ pub memory-line : (cols : List ℕ) (st : State) (c : MemoryCall) (y : Answer) (
 unfolding callOf
 memory-line cols st c y st′ buffer lent t e g =
     ap (λ (u : List ℕ). (u, st′)) (sym g) ∙ ap (printedEffect c) e ∙ any-buffer cols st c lent []
+
+-- ---- a flip changes no register, so that its record need not be taken back
+
+module _ (cols : List ℕ) (st : State) (a b : ℕ) where
+  -- without a bank it is refused
+  flip-finds : refusal st (flip a b) ≡ none → inSpan (setup st) a ≡ true
+  unfolding refusal byCall bySpans
+  flip-finds e =
+      let c = else-left (byCall (spansOf (setup st)) (flip a b)) (unlent st (parts (flip a b))) (else-right (notReady (setup st)) _ e) in
+      not-false (inSpan (setup st) a) (cause-fails _ _ (else-right (byArguments (flip a b)) _ c))
+
+  flip-reports : inSpan (setup st) a ≡ true → access cols st (flipIn a b) .1 .registers ≡ st .registers
+  unfolding access accessAt onTarget onCell reported cellOf located
+  flip-reports t = rw t
+
+  flip-performs : (d : Declined) → refusal st (flip a b) ≡ d → performed cols d st (parts (flip a b)) .1 .registers ≡ st .registers
+  unfolding performed accesses parts
+  flip-performs none e = flip-reports (flip-finds e)
+  flip-performs (some n) e = refl
+
+  flip-keeps : called cols st (flip a b) [] .state .registers ≡ st .registers
+  unfolding called memoryCall
+  flip-keeps = go (memoryCall cols st (flip a b)) (flip-performs (refusal st (flip a b)) refl)
+    where
+      go : (x : Given × State) → x .1 .registers ≡ st .registers → effectOf x [] .state .registers ≡ st .registers
+      go (refused n, s) h = h
+      go (given gs, s) h = h
+
+  -- a flip that answered y
+  pub flip-line : (y : Answer) (r : Registers) (cells t : List ℕ) → leaves y (state r cells) [] ≡ called cols st (flip a b) []
+      → callText (flip a b) (paperAnswer y) [] ≡ t → (t, state (st .registers) cells) ≡ callOf cols st (memory (flip a b))
+  flip-line y r cells t e g =
+      let same : r ≡ st .registers = ap (λ (x : Effect). x .state .registers) e ∙ flip-keeps in
+      memory-line cols st (flip a b) y (state (st .registers) cells) [] [] t (rw same at e) g
 
 -- ---- a read of more than 8 bytes is refused in the same way as one of 9
 

@@ -11,13 +11,13 @@ use lib.Seq.{drop-cons, set-at, drop-drop, take-all, take-append-add, take-appen
 use borrow.Author.Tests.{le-leb, lt-leb}
 use borrow.Rule.Slice.PartMut.{midOf, putMid}
 use Rattle.basics.proofs.RangeLaws.{byCases}
-use Rattle.print.specs.Printed.{longestOutputLine}
+use Rattle.print.specs.CodePrinted.{longestOutputLine}
 use Rattle.print.proofs.PrintLaws.{least-le, take-least}
 use Rattle.lines.specs.Line.{Printed, lineOf}
 use Rattle.calls.specs.State.{State}
 use Rattle.lines.specs.Text.{mostCarried, Fed, carrying, lineLength, fed, after, ended}
-use Rattle.lines.specs.Printed.{LineEffect, printedInto, lineInto, endInto}
-use Rattle.lines.specs.Stepped.{Appended, Reached, stepOf}
+use Rattle.lines.specs.CodePrinted.{LineEffect, printedInto, lineInto, endInto}
+use Rattle.lines.specs.CodeStepped.{Appended, Reached, stepOf}
 use Rattle.lines.proofs.LineLaws.{room-printed}
 use Rattle.lines.proofs.LengthLaws.{line-few}
 use Rattle.lines.proofs.TextLaws.{line-take, fed-line, fed-plain}

@@ -1,4 +1,4 @@
 pub mod Line
 pub mod Text
-pub mod Printed
-pub mod Stepped
+pub mod CodePrinted
+pub mod CodeStepped

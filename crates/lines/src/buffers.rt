@@ -7,7 +7,7 @@ ghost use lib.Dec.{ltb};
 ghost use lib.ListN.{length, take};
 ghost use lib.Seq.{paste};
 ghost use Rattle.lines.specs.Text.{mostCarried};
-ghost use Rattle.lines.specs.Stepped.{carriedOf};
+ghost use Rattle.lines.specs.CodeStepped.{carriedOf};
 use parser::LONGEST_INPUT_LINE;
 
 // The most bytes of an unfinished line that are kept; one more than a line may have shows that it is too long.

@@ -4,17 +4,18 @@ ghost use Prim.Native.Nat.{_+_, _*_, _-_, _≤_};
 ghost use mathlib.Core.List.{[]};
 ghost use lib.ListN.{length, drop};
 ghost use Rattle.ecc.specs.Columns.{columns};
+ghost use Rattle.registers.specs.Record.{recordOf};
 ghost use Rattle.calls.specs.State.{state};
-ghost use Rattle.print.specs.Printed.{longestOutputLine};
-ghost use Rattle.lines.specs.Printed.{executed, lineInto, endInto};
-ghost use Rattle.lines.specs.Stepped.{carriedOf, keptOf, Reached, stepOf, stepped};
+ghost use Rattle.print.specs.CodePrinted.{longestOutputLine};
+ghost use Rattle.lines.specs.CodePrinted.{executed, executedInPlace, lineInto, endInto};
+ghost use Rattle.lines.specs.CodeStepped.{carriedOf, keptOf, Reached, stepOf, stepped};
 ghost use Rattle.lines.specs.Text.{lineLength, carrying, freshState};
 use crate::buffers::Carry;
 use crate::buffers::MOST_CARRIED;
 use crate::buffers::joined;
 use crate::buffers::least;
 use crate::line::Executed;
-use crate::line::execute;
+use crate::line::execute_in_place;
 use crate::line_ends::line_end;
 use print::LONGEST_OUTPUT_LINE;
 use registers::Registers;
@@ -35,9 +36,8 @@ pub struct Stepped {
     pub written: usize,
 }
 
-// How far the complete lines of a chunk have been executed: an index into the chunk, one into the output, and the record.
+// How far the complete lines of a chunk have been executed: an index into the chunk, and one into the output.
 pub struct Progress {
-    pub registers: Registers,
     pub from: usize,
     pub at: usize,
 }
@@ -68,17 +68,17 @@ pub fn start(cells: &mut [u8]) -> Kept
 }
 
 // Executes the carried bytes as a line.
-fn carried_line(registers: Registers, cells: &mut [u8], carry: Carry, out: &mut [u8]) -> Executed
-    ensures { λ x. ⌜ executed x (now (cells .exit)) (now (out .exit)) ≡ lineInto columns (state registers (now (cells .entry))) (carriedOf carry) (now (out .entry)) ⌝ }
+fn carried_line(registers: &mut [u8; 256], cells: &mut [u8], carry: Carry, out: &mut [u8]) -> usize
+    ensures { λ n. ⌜ executedInPlace n (now (registers .exit)) (now (cells .exit)) (now (out .exit)) ≡ lineInto columns (state (recordOf (now (registers .entry))) (now (cells .entry))) (carriedOf carry) (now (out .entry)) ⌝ }
 {
     let bytes = carry.bytes;
     let n = least(carry.len, MOST_CARRIED);
-    execute(registers, cells, &bytes[..n], out)
+    execute_in_place(registers, cells, &bytes[..n], out)
 }
 
 // Executes the complete lines of a chunk from an index on; a line starts there.
 fn whole_lines(
-    registers: Registers,
+    registers: &mut [u8; 256],
     cells: &mut [u8],
     chunk: &[u8],
     from: usize,
@@ -86,10 +86,9 @@ fn whole_lines(
     at: usize,
 ) -> Progress
     requires { ⌜ (from ≤ length (now chunk)) × (at + longestOutputLine * (length (now chunk) - from) ≤ length (now out)) ⌝ }
-    ensures { λ r. ⌜ Reached columns (now (chunk .entry)) (state registers (now (cells .entry))) from (now (out .entry)) at (state (r .registers) (now (cells .exit))) (r .from) (now (out .exit)) (r .at) ⌝ }
+    ensures { λ r. ⌜ Reached columns (now (chunk .entry)) (state (recordOf (now (registers .entry))) (now (cells .entry))) from (now (out .entry)) at (state (recordOf (now (registers .exit))) (now (cells .exit))) (r .from) (now (out .exit)) (r .at) ⌝ }
     ensures { λ r. ⌜ lineLength (drop (r .from) (now (chunk .entry))) ≡ length (now (chunk .entry)) - r .from ⌝ }
 {
-    let mut current = registers;
     let mut i = from;
     let mut n = at;
     while i < chunk.len() {
@@ -97,16 +96,11 @@ fn whole_lines(
         if end == chunk.len() {
             break;
         }
-        let line = execute(current, cells, &chunk[i..end], &mut out[n..]);
-        current = line.registers;
-        n += line.printed;
+        let printed = execute_in_place(registers, cells, &chunk[i..end], &mut out[n..]);
+        n += printed;
         i = end + 1;
     }
-    Progress {
-        registers: current,
-        from: i,
-        at: n,
-    }
+    Progress { from: i, at: n }
 }
 
 // Takes a chunk of input of any length: the lines that it completes are executed, and their output is written to the start of `out`. If `out`
@@ -136,16 +130,15 @@ pub fn step(kept: Kept, cells: &mut [u8], chunk: &[u8], out: &mut [u8]) -> Stepp
             written: 0,
         };
     }
-    let line = carried_line(registers, cells, first, out);
-    let between = line.registers;
-    let all = whole_lines(between, cells, chunk, end + 1, out, line.printed);
+    let mut after = registers.bytes;
+    let printed = carried_line(&mut after, cells, first, out);
+    let all = whole_lines(&mut after, cells, chunk, end + 1, out, printed);
     let from = all.from;
     let rest = joined([0; MOST_CARRIED], 0, &chunk[from..]);
-    let last = all.registers;
     Stepped {
         taken: true,
         kept: Kept {
-            registers: last,
+            registers: Registers { bytes: after },
             carry: rest,
         },
         written: all.at,
@@ -164,5 +157,10 @@ pub fn finish(kept: Kept, cells: &mut [u8], out: &mut [u8]) -> Executed
             printed: 0,
         };
     }
-    carried_line(registers, cells, carry, out)
+    let mut after = registers.bytes;
+    let n = carried_line(&mut after, cells, carry, out);
+    Executed {
+        registers: Registers { bytes: after },
+        printed: n,
+    }
 }

@@ -1,4 +1,5 @@
 pub mod DigitLaws
+pub mod EightLaws
 pub mod ByteLaws
 pub mod PlainLaws
 pub mod FieldLaws

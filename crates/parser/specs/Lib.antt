@@ -1,3 +1,3 @@
 pub mod Digits
 pub mod Format
-pub mod Parsed
+pub mod CodeParsed

@@ -3,7 +3,7 @@ ghost use mathlib.Core.Path.{_≡_};
 ghost use Prim.Native.Nat.{_≤_};
 ghost use lib.ListN.{length, drop, getD};
 ghost use Rattle.parser.specs.Format.{fields, byLetter, parse};
-ghost use Rattle.parser.specs.Parsed.{meant};
+ghost use Rattle.parser.specs.CodeParsed.{meant};
 
 mod bytes;
 mod digits;

@@ -6,7 +6,7 @@ ghost use lib.ListN.{length, drop};
 ghost use Rattle.calls.specs.Calls.{Call, memory, read, flip, write, scrub};
 ghost use Rattle.parser.specs.Digits.{below, hexField, decimalField, bytesField};
 ghost use Rattle.parser.specs.Format.{fields, oneField, twoFields};
-ghost use Rattle.parser.specs.Parsed.{asked, meant, withBoth};
+ghost use Rattle.parser.specs.CodeParsed.{asked, meant, withBoth};
 use crate::bytes::hex_bytes;
 use crate::digits::decimal_digit;
 use crate::digits::hex_address;

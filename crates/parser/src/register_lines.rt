@@ -6,7 +6,7 @@ ghost use lib.ListN.{length, drop};
 ghost use Rattle.calls.specs.Calls.{readRegister, writeRegister};
 ghost use Rattle.parser.specs.Digits.{hexField};
 ghost use Rattle.parser.specs.Format.{fields, oneField, twoFields};
-ghost use Rattle.parser.specs.Parsed.{asked};
+ghost use Rattle.parser.specs.CodeParsed.{asked};
 use crate::digits::hex_pair;
 use crate::request::Request;
 

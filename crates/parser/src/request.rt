@@ -4,7 +4,7 @@ ghost use Prim.Native.Nat.{_≤_};
 ghost use mathlib.Core.List.{[]};
 ghost use mathlib.Core.Option.{none};
 ghost use lib.ListN.{length};
-ghost use Rattle.parser.specs.Parsed.{asked, meant};
+ghost use Rattle.parser.specs.CodeParsed.{asked, meant};
 
 pub enum Request {
     Malformed,

@@ -17,7 +17,7 @@ use Rattle.calls.specs.Calls.{read, write, flip, scrub}
 use Rattle.calls.specs.Answers.{kindsIn, paperAnswer}
 use Rattle.print.specs.Digits.{hexCharacter, hexPairs, decimal}
 use Rattle.print.specs.Output.{refusedText, kindLetter, kindsText, callText, answerText}
-use Rattle.print.specs.Printed.{longestOutputLine, atStart, printInto, kindsLine, flipLine, readLine}
+use Rattle.print.specs.CodePrinted.{longestOutputLine, atStart, printInto, kindsLine, flipLine, readLine}
 
 -- ---- the lesser of two numbers
 

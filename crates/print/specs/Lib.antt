@@ -1,3 +1,3 @@
 pub mod Digits
 pub mod Output
-pub mod Printed
+pub mod CodePrinted

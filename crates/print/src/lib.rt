@@ -5,7 +5,7 @@ ghost use lib.ListN.{take};
 ghost use Rattle.refusals.specs.Paper.{paperVerdict};
 ghost use Rattle.register_calls.specs.Calls.{paperRegisterRead};
 ghost use Rattle.print.specs.Output.{malformedText, registerWriteText, registerReadText};
-ghost use Rattle.print.specs.Printed.{printInto, kindsLine, flipLine, readLine};
+ghost use Rattle.print.specs.CodePrinted.{printInto, kindsLine, flipLine, readLine};
 
 mod digits;
 mod text;

@@ -9,7 +9,7 @@ ghost use lib.Seq.{sets};
 ghost use Rattle.calls.specs.Answers.{kindsIn};
 ghost use Rattle.print.specs.Digits.{hexPair, hexPairs};
 ghost use Rattle.print.specs.Output.{refusedText, acceptedText, kindLetter, kindsText, kindsAndBytesText};
-ghost use Rattle.print.specs.Printed.{longestOutputLine, atStart};
+ghost use Rattle.print.specs.CodePrinted.{longestOutputLine, atStart};
 use crate::digits::high_digit;
 use crate::digits::low_digit;
 use calls::Kind;

@@ -1,18 +1,17 @@
-use mathlib.Core.Path.{sym, ap}
-use lib.Dec.{leb}
+use mathlib.Core.Path.{sym}
 use borrow.Author.Tests.{le-leb}
 use borrow.Author.Needs.{needs}
 use Rattle.banks.proofs.selecting.is_apart.Statement.{statement}
 use Rattle.banks.proofs.selecting.is_apart.Tie as tie
 
 returns : tie.Need-returns
-returns c = sym (le-leb 8 _ (c .before .pre .1 (c .if1 .taken)))
+returns c = sym (le-leb 8 _ (c .before .pre (c .if1 .taken)))
 
-lowest-meeting-requires : tie.Need-lowest-meeting-requires
-lowest-meeting-requires c κs = search needs
+none-meets-requires : tie.Need-none-meets-requires
+none-meets-requires c κs = search needs
 
 returns-2 : tie.Need-returns-2
-returns-2 c = ap (leb 8) (c .lowest-meeting .ensures)
+returns-2 c = c .none-meets .ensures
 
 pub is-apart-spec : {M : Type 1} → statement M
-is-apart-spec = tie.close (tie.spec returns lowest-meeting-requires returns-2)
+is-apart-spec = tie.close (tie.spec returns none-meets-requires returns-2)

@@ -4,7 +4,7 @@ use mathlib.Core.Path.{_≡_, sym, ap, _∙_}
 use lib.ListN.{length, take, length-take}
 use Rattle.ecc.specs.Columns.{columns}
 use Rattle.calls.specs.State.{state}
-use Rattle.lines.specs.Printed.{endInto}
+use Rattle.lines.specs.CodePrinted.{endInto}
 use Rattle.lines.specs.Text.{mostCarried}
 use Rattle.lines.proofs.StepLaws.{end-line, end-none}
 use borrow.Author.Needs.{needs}
@@ -28,9 +28,9 @@ same-length-2 c = search needs
 
 returns-2 : tie.Need-returns-2
 returns-2 c =
-    let a = c .before .before .before .before .before .before .before .before .before .before .before .before .before .args in
+    let a = c .before .before .before .before .before .before .before .before .before .before .before .before .before .before .before .args in
     let p = c .before .before .before .before .carried-line in
-    let l : length (a .kept .carry .bytes) ≡ mostCarried = search (needs, c .before .before .before .before .before .before .before .before .before .before .before .before .before .good) in
+    let l : length (a .kept .carry .bytes) ≡ mostCarried = search (needs, c .before .before .before .before .before .before .before .before .before .before .before .before .before .before .before .good) in
     let w : 0 < length (take (a .kept .carry .len) (a .kept .carry .bytes)) = simp length-take (omega arith) in
     p .ensures ∙ sym (end-line columns (state (a .kept .registers) (a .cells .now)) (take (a .kept .carry .len) (a .kept .carry .bytes)) (a .out .now) w)
 

@@ -4,10 +4,11 @@ use Prim.Native.Nat.{ℕ, _-_, _≤_}
 use lib.ListN.{length, take, drop, length-drop}
 use lib.Seq.{length-take-le, take-all}
 use Rattle.ecc.specs.Columns.{columns}
+use Rattle.registers.specs.Record.{recordOf}
 use Rattle.calls.specs.State.{state}
-use Rattle.print.specs.Printed.{longestOutputLine}
-use Rattle.lines.specs.Printed.{LineEffect}
-use Rattle.lines.specs.Stepped.{carriedOf, keptOf}
+use Rattle.print.specs.CodePrinted.{longestOutputLine}
+use Rattle.lines.specs.CodePrinted.{LineEffect}
+use Rattle.lines.specs.CodeStepped.{carriedOf, keptOf}
 use Rattle.lines.specs.Text.{mostCarried}
 use Rattle.lines.proofs.StepLaws.{into-few, step-refused, step-plain, step-lines}
 use borrow.Author.Needs.{needs}
@@ -46,11 +47,11 @@ add-whole-lines c = search needs
 whole-lines-requires : tie.Need-whole-lines-requires
 whole-lines-requires c κs =
     let l = c .before .before .before .before .before .before .before .carried-line in
-    let few : l .result .printed ≤ longestOutputLine = subst (λ (n : ℕ). n ≤ longestOutputLine) (sym (ap (λ (e : LineEffect). e .0) (l .ensures))) (into-few columns _ _ _) in
-    let enough = c .before .before .before .before .before .before .before .before .before .before .before .before .before .before .before .before .before .if1 .left in
-    let within = c .before .before .before .before .before .before .before .before .before .before .before .before .before .before .before .before .line-end .ensures .1 in
+    let few : l .result ≤ longestOutputLine = subst (λ (n : ℕ). n ≤ longestOutputLine) (sym (ap (λ (e : LineEffect). e .0) (l .ensures))) (into-few columns _ _ _) in
+    let enough = c .before .before .before .before .before .before .before .before .before .before .before .before .before .before .before .before .before .before .before .if1 .left in
+    let within = c .before .before .before .before .before .before .before .before .before .before .before .before .before .before .before .before .before .before .line-end .ensures .1 in
     let same = c .before .before .before .before .out .given in
-    let size : length (l .last .1 .1 .1 .0) ≡ length (c .before .before .before .before .before .before .before .before .before .before .before .before .before .before .before .before .before .before .before .before .before .args .out .now) = same in
+    let size : length (l .last .1 .1 .1 .0) ≡ length (c .before .before .before .before .before .before .before .before .before .before .before .before .before .before .before .before .before .before .before .before .before .before .before .args .out .now) = same in
     (omega arith, omega arith)
 
 sub-joined : tie.Need-sub-joined
@@ -73,20 +74,20 @@ same-length-2 c = search needs
 
 returns-3 : tie.Need-returns-3
 returns-3 c =
-    let a = c .before .before .before .before .before .before .before .before .before .before .before .before .before .before .before .before .before .before .before .before .before .before .before .before .before .before .before .before .before .args in
-    let enough = c .before .before .before .before .before .before .before .before .before .before .before .before .before .before .before .before .before .before .before .before .before .before .before .before .before .if1 .left in
-    let e = c .before .before .before .before .before .before .before .before .before .before .before .before .before .before .before .before .before .before .before .before .before .before .before .before .line-end in
-    let first = c .before .before .before .before .before .before .before .before .before .before .before .before .before .before .before .before .before .before .before .joined in
-    let found = c .before .before .before .before .before .before .before .before .before .before .before .before .before .before .before .before .before .before .if2 .left in
-    let line = c .before .before .before .before .before .before .before .before .before .before .before .before .before .before .before .carried-line in
-    let all = c .before .before .before .before .before .before .before .whole-lines in
+    let a = c .before .before .before .before .before .before .before .before .before .before .before .before .before .before .before .before .before .before .before .before .before .before .before .before .before .before .before .before .before .before .args in
+    let enough = c .before .before .before .before .before .before .before .before .before .before .before .before .before .before .before .before .before .before .before .before .before .before .before .before .before .before .if1 .left in
+    let e = c .before .before .before .before .before .before .before .before .before .before .before .before .before .before .before .before .before .before .before .before .before .before .before .before .before .line-end in
+    let first = c .before .before .before .before .before .before .before .before .before .before .before .before .before .before .before .before .before .before .before .before .joined in
+    let found = c .before .before .before .before .before .before .before .before .before .before .before .before .before .before .before .before .before .before .before .if2 .left in
+    let line = c .before .before .before .before .before .before .before .before .before .before .before .before .before .before .carried-line in
+    let all = c .before .before .before .before .before .before .whole-lines in
     let within = e .ensures .1 in
     let w = all .ensures .0 in
     let x = all .result .from in
     step-lines columns (state (a .kept .registers) (a .cells .now)) (carriedOf (a .kept .carry)) (a .chunk .now) (a .out .now) (e .result) _ (omega arith) (e .ensures .0) (first .ensures .1) (first .ensures .0)
-    (line .result .printed) (state (line .result .registers) (line .last .1 .0)) (line .last .1 .1 .1 .0) (state (all .result .registers) (all .last .1 .0)) (all .last .1 .1 .1 .1 .0) x (all .result .at) _
+    (line .result) (state (recordOf (line .last .0)) (line .last .1 .0)) (line .last .1 .1 .1 .0) (state (recordOf (all .last .0)) (all .last .1 .0)) (all .last .1 .1 .1 .1 .0) x (all .result .at) _
     (omega arith) (line .ensures) w (all .ensures .1)
-    (c .before .joined2 .ensures .0 ∙ ap (take mostCarried) (take-all (length (a .chunk .now) - x) (drop x (a .chunk .now)) (omega (arith, length-drop x (a .chunk .now)))))
+    (c .joined2 .ensures .0 ∙ ap (take mostCarried) (take-all (length (a .chunk .now) - x) (drop x (a .chunk .now)) (omega (arith, length-drop x (a .chunk .now)))))
 
 pub step-spec : {M : Type 1} → statement M
 step-spec =

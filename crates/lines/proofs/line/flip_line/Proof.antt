@@ -1,10 +1,10 @@
 use native.Mathlib.Omega.{arith}
 use Rattle.ecc.specs.Columns.{columns}
+use Rattle.registers.specs.Record.{recordOf}
 use Rattle.calls.specs.State.{state}
 use mathlib.Core.List.{[]}
-use Rattle.calls.specs.Calls.{flip}
 use Rattle.print.proofs.PrintLaws.{flip-text}
-use Rattle.lines.proofs.LineLaws.{line-printed, memory-line}
+use Rattle.lines.proofs.LineLaws.{line-printed, flip-line}
 use borrow.Author.Needs.{needs}
 use Rattle.lines.proofs.line.flip_line.Statement.{statement}
 use Rattle.lines.proofs.line.flip_line.Tie as tie
@@ -24,11 +24,11 @@ same-length-2 c = search needs
 returns : tie.Need-returns
 returns c =
     let a = c .before .before .before .before .before .before .before .before .before .before .before .before .args in
-    let m = c .before .before .before .before .before .before .before .before .flip in
+    let m = c .before .before .before .before .before .before .before .flip in
     let p = c .before .before .flip2 in
-    let st = state (m .result .registers) (m .last .1 .0) in
-    line-printed (p .result) (a .out .now) (p .last .1 .0) _ st _ (omega arith) (p .ensures)
-    (memory-line columns (state (a .registers) (a .cells .now)) (flip (a .address) (a .bit)) (m .result .answer) st [] [] _ (m .ensures) (flip-text [] (m .result .answer) (a .address) (a .bit)))
+    let cells = m .last .1 .0 in
+    line-printed (p .result) (a .out .now) (p .last .1 .0) _ (state (recordOf (a .registers .now)) cells) _ (omega arith) (p .ensures)
+    (flip-line columns (state (recordOf (a .registers .now)) (a .cells .now)) (a .address) (a .bit) (m .result .answer) (m .result .registers) cells _ (m .ensures) (flip-text [] (m .result .answer) (a .address) (a .bit)))
 
 pub flip-line-spec : {M : Type 1} → statement M
 flip-line-spec =

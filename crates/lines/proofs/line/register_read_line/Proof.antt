@@ -1,5 +1,6 @@
 use native.Mathlib.Omega.{arith}
 use Rattle.ecc.specs.Columns.{columns}
+use Rattle.registers.specs.Record.{recordOf}
 use Rattle.calls.specs.State.{state}
 use Rattle.lines.proofs.LineLaws.{line-printed, register-read-line}
 use borrow.Author.Needs.{needs}
@@ -17,10 +18,10 @@ same-length c = search needs
 
 returns : tie.Need-returns
 returns c =
-    let a = c .before .before .before .before .before .before .args in
+    let a = c .before .before .before .before .before .before .before .args in
     let r = c .before .before .before .before .read in
     let p = c .before .before .register-read in
-    λ cells. line-printed (p .result) (a .out .now) (p .last .1 .0) _ (state (a .registers) cells) _ (omega arith) (p .ensures) (register-read-line columns (a .registers) cells (a .offset) (r .result) (r .ensures))
+    λ cells. line-printed (p .result) (a .out .now) (p .last .1 .0) _ (state (recordOf (a .registers .now)) cells) _ (omega arith) (p .ensures) (register-read-line columns (recordOf (a .registers .now)) cells (a .offset) (r .result) (r .ensures))
 
 pub register-read-line-spec : {M : Type 1} → statement M
 register-read-line-spec =

@@ -1,5 +1,6 @@
 use native.Mathlib.Omega.{arith}
 use Rattle.ecc.specs.Columns.{columns}
+use Rattle.registers.specs.Record.{recordOf}
 use Rattle.calls.specs.State.{state}
 use mathlib.Core.List.{[]}
 use Rattle.calls.specs.Calls.{scrub}
@@ -23,12 +24,12 @@ same-length-2 c = search needs
 
 returns : tie.Need-returns
 returns c =
-    let a = c .before .before .before .before .before .before .before .before .before .before .before .before .args in
-    let m = c .before .before .before .before .before .before .before .before .scrub in
+    let a = c .before .before .before .before .before .before .before .before .before .before .before .before .before .before .args in
+    let m = c .before .before .before .before .before .before .before .before .before .scrub in
     let p = c .before .before .kinds in
     let st = state (m .result .registers) (m .last .1 .0) in
     line-printed (p .result) (a .out .now) (p .last .1 .1 .0) _ st _ (omega arith) (p .ensures)
-    (memory-line columns (state (a .registers) (a .cells .now)) (scrub (a .address)) (m .result .answer) st [] [] _ (m .ensures) (scrub-text [] (m .result .answer) (a .address)))
+    (memory-line columns (state (recordOf (a .registers .now)) (a .cells .now)) (scrub (a .address)) (m .result .answer) st [] [] _ (m .ensures) (scrub-text [] (m .result .answer) (a .address)))
 
 pub scrub-line-spec : {M : Type 1} → statement M
 scrub-line-spec =

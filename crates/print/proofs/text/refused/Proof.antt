@@ -3,7 +3,7 @@ use mathlib.Core.Path.{ap, _∙_}
 use mathlib.Core.List.{List, [], _∷_}
 use Prim.Native.Nat.{ℕ, _+_, _/_, _%_}
 use lib.ListN.{length-set}
-use Rattle.print.specs.Printed.{atStart}
+use Rattle.print.specs.CodePrinted.{atStart}
 use Rattle.print.proofs.PrintLaws.{start-sets, refused-one, refused-two}
 use borrow.Author.Needs.{needs}
 use Rattle.print.proofs.text.refused.Statement.{statement}

@@ -6,7 +6,7 @@ use mathlib.Core.List.{List, [], _++_}
 use lib.Dec.{leb}
 use lib.ListN.{length, take, drop}
 use Rattle.calls.specs.State.{State, state}
-use Rattle.print.specs.Printed.{longestOutputLine}
+use Rattle.print.specs.CodePrinted.{longestOutputLine}
 use Rattle.lines.specs.declared.buffers.Carry.{Carry}
 use Rattle.lines.specs.declared.feed.Kept.{Kept}
 use Rattle.lines.specs.declared.feed.Stepped.{Stepped}

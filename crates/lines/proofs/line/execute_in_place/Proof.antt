@@ -2,16 +2,17 @@ use native.Mathlib.Omega.{arith}
 use mathlib.Core.Path.{refl, sym, _∙_}
 use lib.Seq.{length-take-le}
 use Rattle.ecc.specs.Columns.{columns}
+use Rattle.registers.specs.Record.{recordOf}
 use Rattle.calls.specs.State.{state}
 use Rattle.print.specs.Output.{malformedText}
 use Rattle.lines.specs.Line.{orMalformed}
 use Rattle.lines.proofs.LineLaws.{no-room, line-printed, asked-line}
 use borrow.Author.Needs.{needs}
-use Rattle.lines.proofs.line.execute.Statement.{statement}
-use Rattle.lines.proofs.line.execute.Tie as tie
+use Rattle.lines.proofs.line.execute_in_place.Statement.{statement}
+use Rattle.lines.proofs.line.execute_in_place.Tie as tie
 
 returns : tie.Need-returns
-returns c = let a = c .before .before .before .before .args in no-room columns (state (a .registers) (a .cells .now)) (a .line .now) (a .out .now) (omega arith)
+returns c = let a = c .before .before .before .before .args in no-room columns (state (recordOf (a .registers .now)) (a .cells .now)) (a .line .now) (a .out .now) (omega arith)
 
 parse-requires : tie.Need-parse-requires
 parse-requires c κs = search needs
@@ -42,7 +43,7 @@ array-share-prefix-bytes c = search needs
 
 slice-aggregate-write-line : tie.Need-slice-aggregate-write-line
 slice-aggregate-write-line c =
-    let p = c .before .before .before .before .before .before .parse in
+    let p = c .before .before .before .before .before .before .before .parse in
     sym (length-take-le (p .result .count) (p .result .bytes) (p .ensures .1))
 
 write-line-requires : tie.Need-write-line-requires
@@ -75,7 +76,7 @@ returns-2 c =
     let a = c .before .before .before .before .before .before .before .before .before .before .before .args in
     let p = c .before .before .before .before .before .before .parse in
     let m = c .before .before .malformed in
-    let st = state (a .registers) (a .cells .now) in
+    let st = state (recordOf (a .registers .now)) (a .cells .now) in
     line-printed (m .result) (a .out .now) (m .last .0) malformedText st _ (omega arith) (m .ensures) refl
     ∙ asked-line columns st (a .line .now) (a .out .now) (p .result) _ (omega arith) (p .ensures .0) (c .before .before .before .before .enum-told .given .1)
 
@@ -85,9 +86,9 @@ same-length-2 c = search needs
 returns-3 : tie.Need-returns-3
 unfolding orMalformed
 returns-3 c =
-    let a = c .before .before .before .before .before .before .before .before .before .before .before .before .args in
-    let p = c .before .before .before .before .before .before .before .parse in
-    (c .before .before .register-write-line .ensures (a .cells .now)) ∙ asked-line columns (state (a .registers) (a .cells .now)) (a .line .now) (a .out .now) (p .result) _ (omega arith) (p .ensures .0) (c .before .before .before .before .before .request .given .1)
+    let a = c .before .before .before .before .before .before .before .before .before .before .before .before .before .args in
+    let p = c .before .before .before .before .before .before .before .before .parse in
+    (c .before .before .register-write-line .ensures (a .cells .now)) ∙ asked-line columns (state (recordOf (a .registers .now)) (a .cells .now)) (a .line .now) (a .out .now) (p .result) _ (omega arith) (p .ensures .0) (c .before .before .before .before .before .before .request .given .1)
 
 same-length-3 : tie.Need-same-length-3
 same-length-3 c = search needs
@@ -95,9 +96,9 @@ same-length-3 c = search needs
 returns-4 : tie.Need-returns-4
 unfolding orMalformed
 returns-4 c =
-    let a = c .before .before .before .before .before .before .before .before .before .before .before .before .args in
-    let p = c .before .before .before .before .before .before .before .parse in
-    (c .before .before .register-read-line .ensures (a .cells .now)) ∙ asked-line columns (state (a .registers) (a .cells .now)) (a .line .now) (a .out .now) (p .result) _ (omega arith) (p .ensures .0) (c .before .before .before .before .before .request2 .given .1)
+    let a = c .before .before .before .before .before .before .before .before .before .before .before .before .before .args in
+    let p = c .before .before .before .before .before .before .before .before .parse in
+    (c .before .before .register-read-line .ensures (a .cells .now)) ∙ asked-line columns (state (recordOf (a .registers .now)) (a .cells .now)) (a .line .now) (a .out .now) (p .result) _ (omega arith) (p .ensures .0) (c .before .before .before .before .before .before .request2 .given .1)
 
 same-length-4 : tie.Need-same-length-4
 same-length-4 c = search needs
@@ -108,9 +109,9 @@ same-length-5 c = search needs
 returns-5 : tie.Need-returns-5
 unfolding orMalformed
 returns-5 c =
-    let a = c .before .before .before .before .before .before .before .before .before .before .before .before .before .before .before .before .before .args in
-    let p = c .before .before .before .before .before .before .before .before .before .before .before .before .parse in
-    c .before .before .before .before .write-line .ensures ∙ asked-line columns (state (a .registers) (a .cells .now)) (a .line .now) (a .out .now) (p .result) _ (omega arith) (p .ensures .0) (c .before .before .before .before .before .before .before .before .before .before .request3 .given .1)
+    let a = c .before .before .before .before .before .before .before .before .before .before .before .before .before .before .before .before .before .before .args in
+    let p = c .before .before .before .before .before .before .before .before .before .before .before .before .before .parse in
+    c .before .before .before .before .write-line .ensures ∙ asked-line columns (state (recordOf (a .registers .now)) (a .cells .now)) (a .line .now) (a .out .now) (p .result) _ (omega arith) (p .ensures .0) (c .before .before .before .before .before .before .before .before .before .before .before .request3 .given .1)
 
 same-length-6 : tie.Need-same-length-6
 same-length-6 c = search needs
@@ -121,9 +122,9 @@ same-length-7 c = search needs
 returns-6 : tie.Need-returns-6
 unfolding orMalformed
 returns-6 c =
-    let a = c .before .before .before .before .before .before .before .before .before .before .before .before .before .args in
-    let p = c .before .before .before .before .before .before .before .before .parse in
-    c .before .before .read-line .ensures ∙ asked-line columns (state (a .registers) (a .cells .now)) (a .line .now) (a .out .now) (p .result) _ (omega arith) (p .ensures .0) (c .before .before .before .before .before .before .request4 .given .1)
+    let a = c .before .before .before .before .before .before .before .before .before .before .before .before .before .before .args in
+    let p = c .before .before .before .before .before .before .before .before .before .parse in
+    c .before .before .read-line .ensures ∙ asked-line columns (state (recordOf (a .registers .now)) (a .cells .now)) (a .line .now) (a .out .now) (p .result) _ (omega arith) (p .ensures .0) (c .before .before .before .before .before .before .before .request4 .given .1)
 
 same-length-8 : tie.Need-same-length-8
 same-length-8 c = search needs
@@ -134,9 +135,9 @@ same-length-9 c = search needs
 returns-7 : tie.Need-returns-7
 unfolding orMalformed
 returns-7 c =
-    let a = c .before .before .before .before .before .before .before .before .before .before .before .before .before .before .before .args in
-    let p = c .before .before .before .before .before .before .before .before .before .before .parse in
-    c .before .before .before .before .flip-line .ensures ∙ asked-line columns (state (a .registers) (a .cells .now)) (a .line .now) (a .out .now) (p .result) _ (omega arith) (p .ensures .0) (c .before .before .before .before .before .before .before .before .request5 .given .1)
+    let a = c .before .before .before .before .before .before .before .before .before .before .before .before .before .before .before .before .args in
+    let p = c .before .before .before .before .before .before .before .before .before .before .before .parse in
+    c .before .before .before .before .flip-line .ensures ∙ asked-line columns (state (recordOf (a .registers .now)) (a .cells .now)) (a .line .now) (a .out .now) (p .result) _ (omega arith) (p .ensures .0) (c .before .before .before .before .before .before .before .before .before .request5 .given .1)
 
 same-length-10 : tie.Need-same-length-10
 same-length-10 c = search needs
@@ -147,12 +148,12 @@ same-length-11 c = search needs
 returns-8 : tie.Need-returns-8
 unfolding orMalformed
 returns-8 c =
-    let a = c .before .before .before .before .before .before .before .before .before .before .before .before .before .before .before .args in
-    let p = c .before .before .before .before .before .before .before .before .before .before .parse in
-    c .before .before .before .before .scrub-line .ensures ∙ asked-line columns (state (a .registers) (a .cells .now)) (a .line .now) (a .out .now) (p .result) _ (omega arith) (p .ensures .0) (c .before .before .before .before .before .before .before .before .request6 .given .1)
+    let a = c .before .before .before .before .before .before .before .before .before .before .before .before .before .before .before .before .args in
+    let p = c .before .before .before .before .before .before .before .before .before .before .before .parse in
+    c .before .before .before .before .scrub-line .ensures ∙ asked-line columns (state (recordOf (a .registers .now)) (a .cells .now)) (a .line .now) (a .out .now) (p .result) _ (omega arith) (p .ensures .0) (c .before .before .before .before .before .before .before .before .before .request6 .given .1)
 
-pub execute-spec : {M : Type 1} → statement M
-execute-spec =
+pub execute-in-place-spec : {M : Type 1} → statement M
+execute-in-place-spec =
     tie.close
     (tie.spec
     returns

@@ -4,8 +4,9 @@ use mathlib.Core.Bool.{cond}
 use mathlib.Core.List.{List}
 use lib.Dec.{leb}
 use lib.ListN.{length}
+use Rattle.registers.specs.Record.{recordOf}
 use Rattle.calls.specs.State.{State, state}
-use Rattle.print.specs.Printed.{longestOutputLine, atStart}
+use Rattle.print.specs.CodePrinted.{longestOutputLine, atStart}
 use Rattle.lines.specs.declared.line.Executed.{Executed}
 use Rattle.lines.specs.Line.{Printed, lineOf}
 use Rattle.lines.specs.Text.{ended}
@@ -17,6 +18,10 @@ LineEffect = ℕ × List ℕ × State
 -- by what the code returned, and the cells and the output that it was lent
 abbrev pub executed : Executed → List ℕ → List ℕ → LineEffect
 executed x cells out = (x .printed, out, state (x .registers) cells)
+
+-- the same where the record is lent too, and the code returns the number of bytes printed
+abbrev pub executedInPlace : ℕ → List ℕ → List ℕ → List ℕ → LineEffect
+executedInPlace n registers cells out = (n, out, state (recordOf registers) cells)
 
 -- what is printed stands at the start of the output, and the bytes behind it stay as they were
 abbrev pub printedInto : List ℕ → Printed → LineEffect
