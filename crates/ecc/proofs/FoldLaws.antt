@@ -16,7 +16,7 @@ use Rattle.basics.proofs.LinearLaws.{Linear, linear-self, linear-and, linear-sh
 use Rattle.ecc.specs.Columns.{columns}
 use Rattle.ecc.specs.CheckCode.{bitAt, dataBit, taken, xorOf, checkOf}
 use Rattle.ecc.specs.Doubleword.{lowBytes, bytesOfNumber}
-use Rattle.ecc.specs.CodeFold.{rotated, masked, folded, overShifted, foldedWord, parities, gathered, foldedCheck}
+use Rattle.ecc.specs.CodeFold.{rotated, masked, folded, overShifted, foldedMasks, parities, gathered, foldedCheck}
 use Rattle.ecc.proofs.BitLaws.{bit-lt, bit-xor, taken-xor}
 use Rattle.ecc.proofs.DoublewordLaws.{number-at}
 use Rattle.ecc.proofs.FlipLaws.{data-lt}
@@ -79,16 +79,16 @@ module _ (f g : ℕ → ℕ) (lf : Linear f) (lg : Linear g) (s n : ℕ) where
       (rotated-linear (λ x. bitXor (f x) (w x)) (linear-xor f w lf w-linear) n)
 
 -- a number and the same number with its halves exchanged, each under its mask; and two of these, folded
-words-linear : (k l : ℕ) → Linear (λ x. masked x (rotated x 32) k l)
-words-linear = masked-linear (λ x. x) (λ x. rotated x 32) linear-self (rotated-linear (λ x. x) linear-self 32)
+masks-linear : (k l : ℕ) → Linear (λ x. masked x (rotated x 32) k l)
+masks-linear = masked-linear (λ x. x) (λ x. rotated x 32) linear-self (rotated-linear (λ x. x) linear-self 32)
 
 pair-linear : (k l m n : ℕ) → Linear (λ x. folded (masked x (rotated x 32) k l) (masked x (rotated x 32) m n) 0x0000ffff0000ffff 16)
 pair-linear k l m n =
-    folded-linear (λ x. masked x (rotated x 32) k l) (λ x. masked x (rotated x 32) m n) (words-linear k l) (words-linear m n) 0x0000ffff0000ffff 16
+    folded-linear (λ x. masked x (rotated x 32) k l) (λ x. masked x (rotated x 32) m n) (masks-linear k l) (masks-linear m n) 0x0000ffff0000ffff 16
 
-word-linear : Linear foldedWord
-unfolding foldedWord
-word-linear =
+folded-masks-linear : Linear foldedMasks
+unfolding foldedMasks
+folded-masks-linear =
     folded-linear _ _ (pair-linear 0xef200020fff059ed 0x488d000f0342911a 0xfb3f44e03c26c0b6 0x220f3400bd08788c)
     (pair-linear 0xf71007e003f0aada 0x914a3f007cc12215 0x00ffff1fc411c771 0x00000000de848843) 0x00ff00ff00ff00ff 8
 
@@ -106,12 +106,12 @@ gathered-linear f lf = linear-mod (λ x. overShifted (overShifted (overShifted (
 
 fold-linear : Linear foldedCheck
 unfolding foldedCheck
-fold-linear = gathered-linear (λ x. parities (foldedWord x)) (parities-linear foldedWord word-linear)
+fold-linear = gathered-linear (λ x. parities (foldedMasks x)) (parities-linear foldedMasks folded-masks-linear)
 
 -- ---- they agree
 
 one-bit : every (λ k. eqb (foldedCheck (2 ^ k)) (checkOf columns (bytesOfNumber (2 ^ k)))) 64 ≡ true
-unfolding every foldedCheck gathered parities foldedWord folded overShifted masked rotated checkOf xorOf dataBit bitAt bytesOfNumber lowBytes
+unfolding every foldedCheck gathered parities foldedMasks folded overShifted masked rotated checkOf xorOf dataBit bitAt bytesOfNumber lowBytes
 one-bit = refl
 
 pub fold-is-check : (x : ℕ) → x < 2 ^ 64 → foldedCheck x ≡ checkOf columns (bytesOfNumber x)

@@ -22,8 +22,8 @@ unfoldable pub overShifted : ℕ → ℕ → ℕ
 overShifted x n = bitXor x (x / 2 ^ n)
 
 -- a number whose byte j has the parity of check bit j
-unfoldable pub foldedWord : ℕ → ℕ
-foldedWord x =
+unfoldable pub foldedMasks : ℕ → ℕ
+foldedMasks x =
     let y = rotated x 32 in
     let a = masked x y 0xef200020fff059ed 0x488d000f0342911a in
     let b = masked x y 0xfb3f44e03c26c0b6 0x220f3400bd08788c in
@@ -41,4 +41,4 @@ gathered x = overShifted (overShifted (overShifted x 7) 14) 28 % 256
 
 -- ECC-4: the check byte, as the code computes it
 unfoldable pub foldedCheck : ℕ → ℕ
-foldedCheck x = gathered (parities (foldedWord x))
+foldedCheck x = gathered (parities (foldedMasks x))

@@ -4,7 +4,7 @@ ghost use Prim.Native.Nat.{_<_};
 ghost use Rattle.ecc.specs.CheckCode.{checkOf};
 ghost use Rattle.ecc.specs.Columns.{columns};
 ghost use Rattle.ecc.specs.Doubleword.{bytesOfNumber};
-ghost use Rattle.ecc.specs.CodeFold.{rotated, masked, folded, overShifted, foldedWord, parities, gathered};
+ghost use Rattle.ecc.specs.CodeFold.{rotated, masked, folded, overShifted, foldedMasks, parities, gathered};
 
 fn rotated(x: u64, n: u64) -> u64
     requires { ⌜ (0 < n) × (n < 64) ⌝ }
@@ -35,8 +35,8 @@ fn over_shifted(x: u64, n: u64) -> u64
 }
 
 // A number whose byte j has the parity of check bit j.
-fn folded_word(x: u64) -> u64
-    ensures { λ r. ⌜ r ≡ foldedWord x ⌝ }
+fn folded_masks(x: u64) -> u64
+    ensures { λ r. ⌜ r ≡ foldedMasks x ⌝ }
 {
     let y = rotated(x, 32);
     let a = masked(x, y, 0xef200020fff059ed, 0x488d000f0342911a);
@@ -65,5 +65,5 @@ fn gathered(x: u64) -> u8
 pub(crate) fn check_folded(doubleword: u64) -> u8
     ensures { λ r. ⌜ r ≡ checkOf columns (bytesOfNumber doubleword) ⌝ }
 {
-    gathered(parities(folded_word(doubleword)))
+    gathered(parities(folded_masks(doubleword)))
 }

@@ -6,8 +6,8 @@ use borrow.Author.Needs.{needs}
 use Rattle.ecc.proofs.fold.check_folded.Statement.{statement}
 use Rattle.ecc.proofs.fold.check_folded.Tie as tie
 
-folded-word-requires : tie.Need-folded-word-requires
-folded-word-requires c κs = search needs
+folded-masks-requires : tie.Need-folded-masks-requires
+folded-masks-requires c κs = search needs
 
 parities-requires : tie.Need-parities-requires
 parities-requires c κs = search needs
@@ -18,9 +18,9 @@ gathered-requires c κs = search needs
 returns : tie.Need-returns
 unfolding foldedCheck
 returns c =
-    c .gathered .ensures ∙ ap gathered (c .before .parities .ensures ∙ ap parities (c .before .before .folded-word .ensures))
+    c .gathered .ensures ∙ ap gathered (c .before .parities .ensures ∙ ap parities (c .before .before .folded-masks .ensures))
     ∙ fold-is-check (c .before .before .before .args .doubleword) (omega arith)
 
 pub check-folded-spec : {M : Type 1} → statement M
 check-folded-spec =
-    tie.close (tie.spec folded-word-requires parities-requires gathered-requires returns)
+    tie.close (tie.spec folded-masks-requires parities-requires gathered-requires returns)

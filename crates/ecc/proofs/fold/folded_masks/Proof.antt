@@ -1,7 +1,7 @@
-use Rattle.ecc.specs.CodeFold.{foldedWord}
+use Rattle.ecc.specs.CodeFold.{foldedMasks}
 use borrow.Author.Needs.{needs}
-use Rattle.ecc.proofs.fold.folded_word.Statement.{statement}
-use Rattle.ecc.proofs.fold.folded_word.Tie as tie
+use Rattle.ecc.proofs.fold.folded_masks.Statement.{statement}
+use Rattle.ecc.proofs.fold.folded_masks.Tie as tie
 
 rotated-requires : tie.Need-rotated-requires
 rotated-requires c κs = search needs
@@ -28,11 +28,11 @@ folded-requires-3 : tie.Need-folded-requires-3
 folded-requires-3 c κs = search needs
 
 returns : tie.Need-returns
-unfolding foldedWord
+unfolding foldedMasks
 returns c = simp (c .folded3 .ensures, c .before .folded2 .ensures, c .before .before .folded .ensures, c .before .before .before .masked4 .ensures, c .before .before .before .before .masked3 .ensures, c .before .before .before .before .before .masked2 .ensures, c .before .before .before .before .before .before .masked .ensures, c .before .before .before .before .before .before .before .rotated .ensures)
 
-pub folded-word-spec : {M : Type 1} → statement M
-folded-word-spec =
+pub folded-masks-spec : {M : Type 1} → statement M
+folded-masks-spec =
     tie.close
     (tie.spec
     rotated-requires
