@@ -12,16 +12,16 @@ pub struct Setup {
 }
 
 /// Two megabytes with 9 row bits.
-fn one() -> Vec<Span> {
+fn one_bank() -> Vec<Span> {
     vec![Span(0, 1, 0)]
 }
 
-fn two() -> Vec<Span> {
+fn two_banks() -> Vec<Span> {
     vec![Span(0, 1, 0), Span(2, 4, 1)]
 }
 
 /// Lengths of 2 and 3 megabytes by turns, with 9 and 10 row bits; the banks are placed in this order.
-fn eight(order: [usize; 8]) -> Vec<Span> {
+fn eight_banks(order: [usize; 8]) -> Vec<Span> {
     let mut next = 0;
     let mut spans: Vec<Span> = (0..8).map(|_| Span(0, 0, 0)).collect();
     for bank in order {
@@ -70,12 +70,12 @@ fn setup(name: &'static str, spans: &[Span], bank: usize) -> Setup {
 }
 
 pub fn all() -> Vec<Setup> {
-    let ordered = eight([0, 1, 2, 3, 4, 5, 6, 7]);
-    let unordered = eight([3, 0, 6, 1, 7, 4, 2, 5]);
+    let ordered = eight_banks([0, 1, 2, 3, 4, 5, 6, 7]);
+    let unordered = eight_banks([3, 0, 6, 1, 7, 4, 2, 5]);
     vec![
-        setup("1 bank", &one(), 0),
-        setup("2 banks, lowest", &two(), 0),
-        setup("2 banks, highest", &two(), 1),
+        setup("1 bank", &one_bank(), 0),
+        setup("2 banks, lowest", &two_banks(), 0),
+        setup("2 banks, highest", &two_banks(), 1),
         setup("8 banks in order, lowest", &ordered, 0),
         setup("8 banks in order, highest", &ordered, 7),
         setup("8 banks in no order, lowest", &unordered, 0),
@@ -85,5 +85,5 @@ pub fn all() -> Vec<Setup> {
 
 /// Two banks, not yet switched on.
 pub fn two_banks_off() -> Record {
-    record(&two())
+    record(&two_banks())
 }
