@@ -17,7 +17,7 @@ use Rattle.calls.specs.State.{State}
 use Rattle.machine.specs.Calls.{setup, unlentAt}
 use Rattle.memory.specs.declared.judge.Judged.{Judged}
 use Rattle.memory.specs.declared.judge.Judged.the-variants.{Refused, NoBank, Cell}
-use Rattle.memory.specs.CodeJudged.{judgedAt, lentCell, unlessRefused, Judges}
+use Rattle.memory.specs.CodeJudged.{judgedAt, lentCell, unlessDeclined, Judges}
 
 module _ (st : State) (a : ℕ) where
   abbrev pub JudgesAt : Judged → Declined → Type 0
@@ -27,13 +27,13 @@ module _ (st : State) (a : ℕ) where
   unfolding judgedAt
   judges-unready d h = rw (gives-refused (notReady (setup st)) (cellOf (setup st) a) (5 ∷ []) (sym h))
 
-  pub judges-no-bank : (v : Verdict) → given none ≡ (notReady (setup st) gives cellOf (setup st) a) → JudgesAt (unlessRefused v NoBank) (paperVerdict v)
+  pub judges-no-bank : (v : Verdict) → given none ≡ (notReady (setup st) gives cellOf (setup st) a) → JudgesAt (unlessDeclined v NoBank) (paperVerdict v)
   unfolding judgedAt unlentAt
   judges-no-bank verdict.Accepted h = let g = gives-given (notReady (setup st)) (cellOf (setup st) a) none (sym h) in rw (g .0, g .1) (refl, refl)
   judges-no-bank (verdict.Refused x) h = let g = gives-given (notReady (setup st)) (cellOf (setup st) a) none (sym h) in rw (g .0)
 
   pub judges-cell : (v : Verdict) (k : ℕ) → given (some k) ≡ (notReady (setup st) gives cellOf (setup st) a)
-      → JudgesAt (unlessRefused v (lentCell (st .cells) k)) (paperVerdict v)
+      → JudgesAt (unlessDeclined v (lentCell (st .cells) k)) (paperVerdict v)
   unfolding judgedAt unlentAt
   judges-cell verdict.Accepted k h =
       let g = gives-given (notReady (setup st)) (cellOf (setup st) a) (some k) (sym h) in

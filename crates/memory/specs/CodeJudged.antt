@@ -27,9 +27,9 @@ abbrev pub lentCell : List ℕ → ℕ → Judged
 lentCell cells k = cond (isLent cells k) (Cell k) (Refused refusal.NotLent)
 
 -- a refusal by the arguments comes first
-abbrev pub unlessRefused : Verdict → Judged → Judged
-unlessRefused verdict.Accepted j = j
-unlessRefused (verdict.Refused x) j = Refused x
+abbrev pub unlessDeclined : Verdict → Judged → Judged
+unlessDeclined verdict.Accepted j = j
+unlessDeclined (verdict.Refused x) j = Refused x
 
 -- what a judgement says about the refusal d and the cell o of the address
 abbrev pub Judges : Judged → Declined → Option ℕ → List ℕ → Type 0

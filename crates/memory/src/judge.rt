@@ -5,7 +5,7 @@ ghost use Rattle.banks.specs.Setup.{setupOf};
 ghost use Rattle.banks.specs.Map.{cellOf};
 ghost use Rattle.calls.specs.Spans.{byCount, byBit};
 ghost use Rattle.calls.specs.State.{state};
-ghost use Rattle.memory.specs.CodeJudged.{judgedAt, lentCell, unlessRefused, Judges};
+ghost use Rattle.memory.specs.CodeJudged.{judgedAt, lentCell, unlessDeclined, Judges};
 use crate::lent::is_lent;
 use banks::Target;
 use refusals::Refusal;
@@ -51,7 +51,7 @@ fn judge_cell(cells: &[u8], k: usize) -> Judged
 }
 
 fn unless_refused(v: Verdict, j: Judged) -> Judged
-    ensures { λ x. ⌜ x ≡ unlessRefused v j ⌝ }
+    ensures { λ x. ⌜ x ≡ unlessDeclined v j ⌝ }
 {
     match v {
         Verdict::Accepted => j,
