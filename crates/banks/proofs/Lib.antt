@@ -1,17 +1,8 @@
 pub mod RowLaws
 pub mod FieldLaws
-pub mod SizeLaws
-pub mod EnableLaws
 pub mod TakenLaws
 pub mod StoreLaws
 pub mod SpanLaws
 pub mod AcceptedLaws
 pub mod CellLaws
-pub mod PairLaws
-pub mod PassLaws
-pub mod SelectionLaws
 pub mod MapLaws
-pub mod WayBackLaws
-pub mod AbsentLaws
-pub mod InverseLaws
-pub mod MappedLaws

@@ -1,4 +1,4 @@
--- What the code takes out of a record: nineteen numbers, from which it reads each bank. Only contracts of functions private to the crate use them.
+-- What the code takes out of a record: nineteen numbers, from which it reads each bank. They are no part of what the rules say.
 use Prim.Native.Nat.{ℕ, zero, suc, _+_, _*_, _/_, _%_, _^_, _<_}
 use mathlib.Core.Bool.{cond}
 use mathlib.Core.List.{List, [], _∷_}

@@ -2,5 +2,3 @@ pub mod Setup
 pub mod CodeFields
 pub mod Judge
 pub mod Map
-pub mod WayBack
-pub mod CodeSelection

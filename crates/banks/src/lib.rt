@@ -1,19 +1,35 @@
-// The banks of a record: when it may be switched on, the way from an address to a cell, and back.
+// The banks of a record, and when it may be switched on; the types of the map.
 ghost use mathlib.Core.Path.{_≡_};
-ghost use Rattle.refusals.specs.Paper.{paperVerdict, _gives_};
+ghost use Rattle.refusals.specs.Paper.{paperVerdict};
 ghost use Rattle.banks.specs.Setup.{setupOf, bank};
-ghost use Rattle.banks.specs.Judge.{judged, ready, notReady};
-ghost use Rattle.banks.specs.Map.{paperMapping, mapped, paperTarget, cellOf, paperCount, cellCount};
-ghost use Rattle.banks.specs.WayBack.{paperBack, back};
+ghost use Rattle.banks.specs.CodeFields.{fieldsOf};
+ghost use Rattle.banks.specs.Judge.{judged, ready};
 use refusals::Refusal;
 use refusals::Verdict;
 use registers::Registers;
 
-mod addressing;
-mod inverse;
 mod judging;
-mod selecting;
 mod setup;
+
+// The row bits of code 0.
+pub const FEWEST_ROWS: u32 = 9;
+
+// The fewest column bits that a bank can have.
+pub const FEWEST_COLUMNS: u32 = 8;
+
+// How many bits number the doublewords of a megabyte.
+pub const MEGABYTE: u32 = 17;
+
+// How many numbers are taken out of a record: eight starts, eight last megabytes, the enable bits, the row codes, and the byte that switches
+// memory on.
+pub const FIELDS: usize = 19;
+
+// The indexes of the three numbers after the starts and last megabytes.
+pub const ENABLE: usize = 16;
+
+pub const CODES: usize = 17;
+
+pub const MEMORY: usize = 18;
 
 pub struct Row(pub u32);
 
@@ -55,12 +71,6 @@ pub enum CellCount {
     Cells(u32),
 }
 
-// What the way back returns.
-pub enum Origin {
-    Refused(Refusal),
-    Address(u32),
-}
-
 // REG-16: whether memory is on.
 pub fn is_on(r: Registers) -> bool
     ensures { λ t. ⌜ t ≡ setupOf r .on ⌝ }
@@ -75,38 +85,6 @@ pub fn judge(r: Registers) -> Verdict
 {
     let fields = setup::fields_of(r);
     judging::verdict(&fields)
-}
-
-// MAP-9: the map.
-pub fn map(r: Registers, address: u32) -> Mapping
-    ensures { λ m. ⌜ paperMapping m ≡ mapped (setupOf r) address ⌝ }
-{
-    let fields = setup::fields_of(r);
-    addressing::map_address(&fields, address)
-}
-
-// MAP-6: the cell number of an address.
-pub fn find_cell(r: Registers, address: u32) -> Target
-    ensures { λ t. ⌜ paperTarget t ≡ (notReady (setupOf r) gives cellOf (setupOf r) address) ⌝ }
-{
-    let fields = setup::fields_of(r);
-    addressing::cell_of(&fields, address)
-}
-
-// MAP-10: the number of cells of a record.
-pub fn cell_count(r: Registers) -> CellCount
-    ensures { λ k. ⌜ paperCount k ≡ (notReady (setupOf r) gives cellCount (setupOf r)) ⌝ }
-{
-    let fields = setup::fields_of(r);
-    addressing::count(&fields)
-}
-
-// BACK-1: the way back.
-pub fn way_back(r: Registers, bank: u32, row: Row, column: Column) -> Origin
-    ensures { λ x. ⌜ paperBack x ≡ back (setupOf r) bank row column ⌝ }
-{
-    let fields = setup::fields_of(r);
-    inverse::origin_of(&fields, bank, row, column)
 }
 
 // ON-8: memory is on, and judging finds no fault.
@@ -126,4 +104,12 @@ pub fn decode_bank(r: Registers, n: u32) -> Bank
         return setup::bank_of(&fields, n as u8);
     }
     setup::off_bank()
+}
+
+// The numbers that describe the banks of a record, for code that reads several banks at once.
+pub fn fields(r: Registers) -> [u16; FIELDS]
+    ensures { λ f. ⌜ f ≡ fieldsOf r ⌝ }
+{
+    let bytes = r.bytes;
+    setup::fields_in(&bytes)
 }

@@ -1,5 +1,4 @@
--- A doubleword as a number: taking the bytes of a number and joining bytes are inverse, and a change in a byte is the same change at its place in
--- the number.
+-- The bytes of a doubleword that is held as a number, and that a change in a byte is the same change at its place in the number.
 use mathlib.Core.Path.{_≡_, refl, sym, ap, ap₂, _∙_}
 use mathlib.Core.List.{List, [], _∷_}
 use Prim.Native.Nat.{ℕ, zero, suc, _+_, _-_, _*_, _/_, _%_, _^_, _<_}
@@ -11,73 +10,40 @@ use lib.Pow.{pow-add, pow-lt, pow-pos, shl-exact, shr-shr}
 use Rattle.basics.proofs.Shifts.{one-shl}
 use Rattle.basics.proofs.XorLaws.{xor-assoc}
 use Rattle.ecc.specs.CheckCode.{flipBit}
-use Rattle.ecc.specs.Doubleword.{lowBytes, bytesOfNumber}
+use Rattle.eight_bytes.specs.CodeNumber.{bytesIn}
+use Rattle.ecc.specs.Doubleword.{bytesOfNumber}
 use Rattle.ecc.proofs.FlipLaws.{mask-data}
 
--- bytes joined to one number, lowest first
-unfoldable pub numberOf : List ℕ → ℕ
-numberOf [] = 0
-numberOf (b ∷ bs) = b + 256 * numberOf bs
+-- ---- the bytes of a number
 
--- all are bytes
-abbrev pub Bytes : List ℕ → Type 0
-Bytes [] = Unit
-Bytes (b ∷ l) = (b < 256) × Bytes l
-
--- ---- the two ways
-
-pub low-length : (n x : ℕ) → length (lowBytes n x) ≡ n
-unfolding lowBytes
+pub low-length : (n x : ℕ) → length (bytesIn n x) ≡ n
 low-length zero x = refl
 low-length (suc n) x = ap suc (low-length n (x / 256))
 
-pub low-at : (n x k : ℕ) → k < n → getD (lowBytes n x) k 0 ≡ x / 2 ^ (8 * k) % 2 ^ 8
-unfolding lowBytes
+pub low-at : (n x k : ℕ) → k < n → getD (bytesIn n x) k 0 ≡ x / 2 ^ (8 * k) % 2 ^ 8
 low-at zero x k h = absurd (omega arith)
 low-at (suc n) x zero h = ap (λ (y : ℕ). y % 2 ^ 8) (sym (div-one x))
 low-at (suc n) x (suc k) h =
     let e : 8 + 8 * k ≡ 8 * suc k = omega arith in
     low-at n (x / 256) k (omega arith) ∙ ap (λ (y : ℕ). y % 2 ^ 8) (shr-shr x 8 (8 * k) ∙ ap (λ (j : ℕ). x / 2 ^ j) e)
 
-pub bytes-number : (n : ℕ) (l : List ℕ) → length l ≡ n → Bytes l → lowBytes n (numberOf l) ≡ l
-unfolding lowBytes numberOf
-bytes-number zero [] e h = refl
-bytes-number zero (b ∷ l) e h = absurd (omega arith)
-bytes-number (suc n) [] e h = absurd (omega arith)
-bytes-number (suc n) (b ∷ l) e h =
-    let x : ℕ = numberOf l in
-    let small : b < 256 = h .0 in
-    let low : (b + 256 * x) % 256 ≡ b = omega arith in
-    let high : (b + 256 * x) / 256 ≡ x = omega arith in
-    ap₂ (λ (y : ℕ) (z : List ℕ). y ∷ z) low (ap (lowBytes n) high ∙ bytes-number n l (omega arith) (h .1))
-
-pub number-bytes : (n x : ℕ) → x < 2 ^ (8 * n) → numberOf (lowBytes n x) ≡ x
-unfolding lowBytes numberOf
-number-bytes zero x h = omega arith
-number-bytes (suc n) x h =
-    let e : 8 * suc n ≡ 8 * n + 8 = omega arith in
-    let p : 2 ^ (8 * suc n) ≡ 2 ^ (8 * n) * 2 ^ 8 = ap (λ (j : ℕ). 2 ^ j) e ∙ pow-add 2 (8 * n) 8 in
-    let below : x / 256 < 2 ^ (8 * n) = omega arith in
-    ap (λ (y : ℕ). x % 256 + 256 * y) (number-bytes n (x / 256) below) ∙ omega arith
-
 -- ---- a byte that an exclusive-or changes
 
 -- d at byte k
-pub low-xor : (n x k d : ℕ) → d < 256 → lowBytes n (bitXor x (d * 2 ^ (8 * k))) ≡ set (lowBytes n x) k (bitXor (getD (lowBytes n x) k 0) d)
-unfolding lowBytes
+pub low-xor : (n x k d : ℕ) → d < 256 → bytesIn n (bitXor x (d * 2 ^ (8 * k))) ≡ set (bytesIn n x) k (bitXor (getD (bytesIn n x) k 0) d)
 low-xor zero x k d h = refl
 low-xor (suc n) x zero d h =
     let e : d * 2 ^ (8 * 0) ≡ d = mul-one d in
     ap₂ (λ (y : ℕ) (z : List ℕ). y ∷ z)
     (xor-mod x (d * 2 ^ (8 * 0)) 8 ∙ ap (λ (y : ℕ). bitXor (x % 256) (y % 256)) e ∙ ap (bitXor (x % 256)) (mod-eq-of-lt h))
-    (ap (lowBytes n) (xor-shr x (d * 2 ^ (8 * 0)) 8 ∙ ap (λ (y : ℕ). bitXor (x / 256) (y / 256)) e ∙ ap (bitXor (x / 256)) (div-eq-of-lt h) ∙ xor-zero-r (x / 256)))
+    (ap (bytesIn n) (xor-shr x (d * 2 ^ (8 * 0)) 8 ∙ ap (λ (y : ℕ). bitXor (x / 256) (y / 256)) e ∙ ap (bitXor (x / 256)) (div-eq-of-lt h) ∙ xor-zero-r (x / 256)))
 low-xor (suc n) x (suc k) d h =
     let m : ℕ = d * 2 ^ (8 * k) in
     let e : 8 * suc k ≡ 8 * k + 8 = omega arith in
     let q : d * 2 ^ (8 * suc k) ≡ m * 2 ^ 8 = ap (λ (j : ℕ). d * 2 ^ j) e ∙ ap (λ (y : ℕ). d * y) (pow-add 2 (8 * k) 8) ∙ sym (mul-assoc d (2 ^ (8 * k)) (2 ^ 8)) in
     ap₂ (λ (y : ℕ) (z : List ℕ). y ∷ z)
     (xor-mod x (d * 2 ^ (8 * suc k)) 8 ∙ ap (λ (y : ℕ). bitXor (x % 256) (y % 256)) q ∙ ap (bitXor (x % 256)) (mul-mod-left m (2 ^ 8)) ∙ xor-zero-r (x % 256))
-    (ap (lowBytes n) (xor-shr x (d * 2 ^ (8 * suc k)) 8 ∙ ap (λ (y : ℕ). bitXor (x / 256) (y / 256)) q ∙ ap (bitXor (x / 256)) (mul-div-cancel m (pow-pos 8)))
+    (ap (bytesIn n) (xor-shr x (d * 2 ^ (8 * suc k)) 8 ∙ ap (λ (y : ℕ). bitXor (x / 256) (y / 256)) q ∙ ap (bitXor (x / 256)) (mul-div-cancel m (pow-pos 8)))
     ∙ low-xor n (x / 256) k d h)
 
 -- ---- of a doubleword
@@ -89,14 +55,6 @@ number-length = low-length 8
 pub number-at : (x k : ℕ) → k < 8 → getD (bytesOfNumber x) k 0 ≡ x / 2 ^ (8 * k) % 2 ^ 8
 unfolding bytesOfNumber
 number-at = low-at 8
-
-pub bytes-of-number : (l : List ℕ) → length l ≡ 8 → Bytes l → bytesOfNumber (numberOf l) ≡ l
-unfolding bytesOfNumber
-bytes-of-number = bytes-number 8
-
-pub number-of-bytes : (x : ℕ) → x < 2 ^ 64 → numberOf (bytesOfNumber x) ≡ x
-unfolding bytesOfNumber
-number-of-bytes = number-bytes 8
 
 pub number-xor : (x k d : ℕ) → d < 256 → bytesOfNumber (bitXor x (d * 2 ^ (8 * k))) ≡ set (bytesOfNumber x) k (bitXor (getD (bytesOfNumber x) k 0) d)
 unfolding bytesOfNumber

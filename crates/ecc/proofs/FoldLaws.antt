@@ -15,7 +15,7 @@ use Rattle.basics.proofs.XorLaws.{xor-four}
 use Rattle.basics.proofs.LinearLaws.{Linear, linear-self, linear-and, linear-shr, linear-mod, linear-shl, linear-xor, linear-same}
 use Rattle.ecc.specs.Columns.{columns}
 use Rattle.ecc.specs.CheckCode.{bitAt, dataBit, taken, xorOf, checkOf}
-use Rattle.ecc.specs.Doubleword.{lowBytes, bytesOfNumber}
+use Rattle.ecc.specs.Doubleword.{bytesOfNumber}
 use Rattle.ecc.specs.CodeFold.{rotated, masked, folded, overShifted, foldedMasks, parities, gathered, foldedCheck}
 use Rattle.ecc.proofs.BitLaws.{bit-lt, bit-xor, taken-xor}
 use Rattle.ecc.proofs.DoublewordLaws.{number-at}
@@ -111,7 +111,7 @@ fold-linear = gathered-linear (λ x. parities (foldedMasks x)) (parities-linear 
 -- ---- they agree
 
 one-bit : every (λ k. eqb (foldedCheck (2 ^ k)) (checkOf columns (bytesOfNumber (2 ^ k)))) 64 ≡ true
-unfolding every foldedCheck gathered parities foldedMasks folded overShifted masked rotated checkOf xorOf dataBit bitAt bytesOfNumber lowBytes
+unfolding every foldedCheck gathered parities foldedMasks folded overShifted masked rotated checkOf xorOf dataBit bitAt bytesOfNumber
 one-bit = refl
 
 pub fold-is-check : (x : ℕ) → x < 2 ^ 64 → foldedCheck x ≡ checkOf columns (bytesOfNumber x)

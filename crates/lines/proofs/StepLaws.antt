@@ -1,25 +1,25 @@
 -- Laws of a step over a chunk: its lines, its output, what is carried.
-use mathlib.Core.Path.{_≡_, refl, sym, ap, _∙_}
+use mathlib.Core.Path.{_≡_, refl, sym, ap, subst, _∙_}
 use mathlib.Core.Bool.{Bool, true, false, cond}
 use mathlib.Core.List.{List, [], _∷_, _++_, append-assoc, append-nil}
 use Prim.Native.Nat.{ℕ, zero, suc, _+_, _*_, _-_, _≤_, _<_}
 use native.Mathlib.Omega.{arith}
-use native.Mathlib.Nat.{zero-add}
-use lib.Dec.{ltb, leb}
+use lib.Dec.{ltb, leb, eqb}
 use lib.ListN.{length, getD, set, replicate, take, drop, length-replicate, length-append, length-drop, drop-of-length-le, take-append-drop}
 use lib.Seq.{drop-cons, set-at, drop-drop, take-all, take-append-add, take-append-seam, drop-append-add, drop-append-seam, take-paste, length-take-le, paste}
-use borrow.Author.Tests.{le-leb, lt-leb}
+use borrow.Author.Tests.{eqb-true, ne-eqb, le-leb, lt-leb}
 use borrow.Rule.Slice.PartMut.{midOf, putMid}
 use Rattle.basics.proofs.RangeLaws.{byCases}
 use Rattle.print.specs.CodePrinted.{longestOutputLine}
 use Rattle.print.proofs.PrintLaws.{least-le, take-least}
-use Rattle.lines.specs.Line.{Printed, lineOf}
+use Rattle.line.specs.Line.{Printed, lineOf}
 use Rattle.calls.specs.State.{State}
-use Rattle.lines.specs.Text.{mostCarried, Fed, carrying, lineLength, fed, after, ended}
-use Rattle.lines.specs.CodePrinted.{LineEffect, printedInto, lineInto, endInto}
-use Rattle.lines.specs.CodeStepped.{Appended, Reached, stepOf}
-use Rattle.lines.proofs.LineLaws.{room-printed}
-use Rattle.lines.proofs.LengthLaws.{line-few}
+use Rattle.lines.specs.Text.{mostCarried, Fed, carrying, fedByte, fed, after, ended}
+use Rattle.line.specs.CodePrinted.{LineEffect, printedInto, lineInto}
+use Rattle.line_ends.specs.LineEnd.{lineLength}
+use Rattle.lines.specs.CodeStepped.{Appended, Reached, LinesReached, stepOf, endInto}
+use Rattle.line.proofs.LineLaws.{room-printed}
+use Rattle.line.proofs.LengthLaws.{line-few}
 use Rattle.lines.proofs.TextLaws.{line-take, fed-line, fed-plain}
 
 -- ---- bytes cleared one after the other
@@ -101,61 +101,144 @@ part-back n out part =
     ap (λ (l : List ℕ). take n out ++ l)
     (ap (λ (l : List ℕ). part ++ l) (drop-of-length-le (drop n out) {i = length out - n} (omega (arith, length-drop n out))) ∙ append-nil part)
 
-module _ (cols chunk : List ℕ) (st : State) (from : ℕ) (out : List ℕ) (at : ℕ) where
-  pub reached-start : from ≤ length chunk → at + longestOutputLine * (length chunk - from) ≤ length out → Reached cols chunk st from out at st from out at
-  reached-start h k = record { same = refl; behind = refl; size = refl; forth = omega arith; within = h; room = k }
+module _ (cols : List ℕ) (f : Fed) (chunk out : List ℕ) where
+  pub reached-start : longestOutputLine * length chunk ≤ length out → Reached cols f chunk out f 0 out 0
+  reached-start h = record { same = refl; behind = refl; size = refl; within = omega arith; room = omega arith }
 
-  module _ (st₁ : State) (i : ℕ) (out₁ : List ℕ) (n : ℕ) (h : Reached cols chunk st from out at st₁ i out₁ n) where
+  module _ (st₁ : State) (c₁ : List ℕ) (i : ℕ) (out₁ : List ℕ) (n : ℕ) (h : Reached cols f chunk out (carrying st₁ c₁) i out₁ n) where
     reached-text : (e : ℕ) → e ≡ i + lineLength (drop i chunk) → e < length chunk → (t : List ℕ) (st₂ : State) (out₂ : List ℕ) (m : ℕ)
-        → _≡_ {A = Printed} (t, st₂) (lineOf cols st₁ (take (e - i) (drop i chunk)))
-        → length t ≤ longestOutputLine → Appended out₁ n t out₂ m → Reached cols chunk st from out at st₂ (e + 1) out₂ m
-    reached-text e f g t st₂ out₂ m l k p =
+        → _≡_ {A = Printed} (t, st₂) (lineOf cols st₁ (c₁ ++ take (e - i) (drop i chunk)))
+        → length t ≤ longestOutputLine → Appended out₁ n t out₂ m → Reached cols f chunk out (carrying st₂ []) (e + 1) out₂ m
+    reached-text e g k t st₂ out₂ m l few p =
         let xs = drop i chunk in
         let size = h .size in
-        let forth = h .forth in
         let within = h .within in
         let room = h .room in
         let place = p .place in
         let w : length xs ≡ length chunk - i = length-drop i chunk in
         let u : e - i ≡ lineLength xs = omega arith in
         let v : i + suc (lineLength xs) ≡ e + 1 = omega arith in
-        let line : lineOf cols st₁ (take (lineLength xs) xs) ≡ (t, st₂) = rw u at (sym l) in
-        let one : fed cols (carrying st₁ []) xs ≡ after t (fed cols (carrying st₂ []) (drop (e + 1) chunk)) =
-        fed-line cols st₁ xs [] (omega arith) ∙ rw (line, drop-drop (suc (lineLength xs)) i chunk, v) in
+        let line : lineOf cols st₁ (c₁ ++ take (lineLength xs) xs) ≡ (t, st₂) = rw u at (sym l) in
+        let one : fed cols (carrying st₁ c₁) xs ≡ after t (fed cols (carrying st₂ []) (drop (e + 1) chunk)) =
+        fed-line cols st₁ xs c₁ (omega arith) ∙ rw (line, drop-drop (suc (lineLength xs)) i chunk, v) in
         record {
           same =
               h .same ∙ ap (after (take n out₁)) one
               ∙ rw (p .front, append-assoc (take n out₁) t (fed cols (carrying st₂ []) (drop (e + 1) chunk) .0));
           behind = p .behind ∙ rw (place, ← drop-drop (length t) n out₁, h .behind, drop-drop (length t) n out);
           size = p .size ∙ h .size;
-          forth = omega arith;
           within = omega arith;
           room = omega arith;
         }
 
     -- one line more, executed into the rest of the output
-    pub reached-line : (e : ℕ) → e ≡ i + lineLength (drop i chunk) → e < length chunk → (k : ℕ) (part : List ℕ) (st₂ : State)
-        → _≡_ {A = LineEffect} (k, part, st₂) (lineInto cols st₁ (take (e - i) (drop i chunk)) (midOf n (length out₁ - n) out₁))
-        → Reached cols chunk st from out at st₂ (e + 1) (putMid n (length out₁ - n) out₁ part) (n + k)
-    reached-line e f g k part st₂ l =
+    pub reached-line : (e : ℕ) → e ≡ i + lineLength (drop i chunk) → e < length chunk → (line : List ℕ)
+        → lineOf cols st₁ line ≡ lineOf cols st₁ (c₁ ++ take (e - i) (drop i chunk)) → (k : ℕ) (part : List ℕ) (st₂ : State)
+        → _≡_ {A = LineEffect} (k, part, st₂) (lineInto cols st₁ line (midOf n (length out₁ - n) out₁))
+        → Reached cols f chunk out (carrying st₂ []) (e + 1) (putMid n (length out₁ - n) out₁ part) (n + k)
+    reached-line e g w line same k part st₂ l =
         let size = h .size in
         let room = h .room in
-        let line = take (e - i) (drop i chunk) in
         let more : n + longestOutputLine ≤ length out₁ = omega arith in
         let m : _≡_ {A = LineEffect} (k, part, st₂) (lineInto cols st₁ line (drop n out₁)) = l ∙ ap (lineInto cols st₁ line) (mid-rest n out₁) in
-        reached-text e f g (lineOf cols st₁ line .0) st₂ (putMid n (length out₁ - n) out₁ part) (n + k)
-        (line-leaves cols st₁ line out₁ n k part st₂ more m) (line-few cols st₁ line)
+        reached-text e g w (lineOf cols st₁ line .0) st₂ (putMid n (length out₁ - n) out₁ part) (n + k)
+        (line-leaves cols st₁ line out₁ n k part st₂ more m ∙ same) (line-few cols st₁ line)
         (rw (part-back n out₁ part) (line-appended cols st₁ line out₁ n k part st₂ more m))
+
+-- what was carried up to a place: nothing, but at the start
+abbrev pub carriedAt : List ℕ → ℕ → List ℕ
+carriedAt c i = cond (eqb i 0) c []
+
+-- the line there
+pub line-from : (cols : List ℕ) (st : State) (c chunk first line : List ℕ) (i e : ℕ) → (i ≡ 0 → first ≡ take mostCarried (c ++ take e chunk))
+    → line ≡ cond (eqb i 0) first (take (e - i) (drop i chunk)) → lineOf cols st line ≡ lineOf cols st (carriedAt c i ++ take (e - i) (drop i chunk))
+line-from cols st c chunk first line i e h l =
+    byCases (eqb i 0)
+    (λ t.
+    let z : i ≡ 0 = eqb-true i 0 t in
+    let s : line ≡ first = l ∙ rw t in
+    let d : e - i ≡ e = omega arith in
+    rw t (ap (lineOf cols st) (s ∙ h z) ∙ line-take cols st (c ++ take e chunk) ∙ rw (d, z)))
+    (λ t. rw t (ap (lineOf cols st) (l ∙ rw t)))
+
+-- ---- the lines of a chunk that has one; `first` is the first with what was carried, and `stop` is where it ends
+
+-- before the line from i to e is executed
+pub record Before (cols : List ℕ) (st : State) (first chunk : List ℕ) (stop : ℕ) (out : List ℕ) (st₁ : State) (i e : ℕ) (out₁ : List ℕ) (n : ℕ) : Type 0 where
+  pub ends : e ≡ i + lineLength (drop i chunk)
+  pub more : e < length chunk
+  pub start : i ≡ 0 → e ≡ stop
+  pub size : length out₁ ≡ length out
+  pub room : n + longestOutputLine * (length chunk - i) ≤ length out
+  pub reached : (c : List ℕ) → first ≡ take mostCarried (c ++ take stop chunk) → Reached cols (carrying st c) chunk out (carrying st₁ (carriedAt c i)) i out₁ n
+
+module _ (cols : List ℕ) (st : State) (first chunk : List ℕ) (stop : ℕ) (out : List ℕ) where
+  pub before-first : stop ≡ 0 + lineLength (drop 0 chunk) → stop < length chunk → longestOutputLine * length chunk ≤ length out → Before cols st first chunk stop out st 0 stop out 0
+  before-first e h k =
+      record { ends = e; more = h; start = λ z. refl; size = refl; room = omega arith; reached = λ c f. reached-start cols (carrying st c) chunk out k }
+
+  module _ (st₁ : State) (i e : ℕ) (out₁ : List ℕ) (n : ℕ) (h : Before cols st first chunk stop out st₁ i e out₁ n) (line : List ℕ)
+      (l : line ≡ cond (eqb i 0) first (take (e - i) (drop i chunk))) (k : ℕ) (part : List ℕ) (st₂ : State)
+      (x : _≡_ {A = LineEffect} (k, part, st₂) (lineInto cols st₁ line (midOf n (length out₁ - n) out₁))) where
+    abbrev out₂ : List ℕ
+    out₂ = putMid n (length out₁ - n) out₁ part
+
+    -- what the line leaves
+    after-line : (c : List ℕ) → first ≡ take mostCarried (c ++ take stop chunk) → Reached cols (carrying st c) chunk out (carrying st₂ []) (e + 1) out₂ (n + k)
+    after-line c f =
+        reached-line cols (carrying st c) chunk out st₁ (carriedAt c i) i out₁ n (h .reached c f) e (h .ends) (h .more) line
+        (line-from cols st₁ c chunk first line i e (λ z. f ∙ ap (λ (m : ℕ). take mostCarried (c ++ take m chunk)) (sym (h .start z))) l) k part st₂ x
+
+    pub lines-reached : LinesReached cols st first chunk stop out st₂ (e + 1) out₂ (n + k)
+    unfolding LinesReached
+    lines-reached = after-line
+
+    room-here : n + longestOutputLine ≤ length out₁
+    room-here =
+        let size = h .size in
+        let room = h .room in
+        let ends = h .ends in
+        let more = h .more in
+        omega arith
+
+    pub same-size : length out₂ ≡ length out
+    same-size =
+        let m : _≡_ {A = LineEffect} (k, part, st₂) (lineInto cols st₁ line (drop n out₁)) = x ∙ ap (lineInto cols st₁ line) (mid-rest n out₁) in
+        ap length (part-back n out₁ part) ∙ line-appended cols st₁ line out₁ n k part st₂ room-here m .size ∙ h .size
+
+    pub line-fits : n + k + longestOutputLine * (length chunk - (e + 1)) ≤ length out
+    line-fits =
+        let few : k ≤ longestOutputLine = subst (λ (m : ℕ). m ≤ longestOutputLine) (sym (ap (λ (y : LineEffect). y .0) x)) (into-few cols st₁ line _) in
+        let room = h .room in
+        let ends = h .ends in
+        let more = h .more in
+        omega arith
+
+    pub before-next : (e₂ : ℕ) → e₂ ≡ e + 1 + lineLength (drop (e + 1) chunk) → e₂ < length chunk → Before cols st first chunk stop out st₂ (e + 1) e₂ out₂ (n + k)
+    before-next e₂ g w =
+        let later : eqb (e + 1) 0 ≡ false = ne-eqb (e + 1) 0 (λ z. omega arith) in
+        record {
+          ends = g;
+          more = w;
+          start = λ z. absurd (omega arith);
+          size = same-size;
+          room = line-fits;
+          reached = λ c f. rw later (after-line c f);
+        }
 
 ended-line : (cols : List ℕ) (st : State) (l : List ℕ) → 0 < length l → ended cols st l ≡ lineOf cols st l
 unfolding ended
 ended-line cols st [] h = absurd (omega arith)
 ended-line cols st (b ∷ l) h = refl
 
--- the end of the input, with a byte carried and with none
-pub end-line : (cols : List ℕ) (st : State) (l out : List ℕ) → 0 < length l → endInto cols st l out ≡ lineInto cols st l out
-unfolding endInto lineInto
-end-line cols st l out h = rw (ended-line cols st l h)
+-- the end of the input: with a byte carried it is a step over an LF, and with none it is nothing
+pub end-step : (cols : List ℕ) (st : State) (l out : List ℕ) → 0 < length l
+    → (let s = stepOf cols (carrying st l) (0x0A ∷ []) out in _≡_ {A = LineEffect} (s .1, s .3, s .2 .state) (endInto cols st l out))
+unfolding endInto stepOf fed fedByte
+end-step cols st l out h =
+    let e = ended-line cols st l h in
+    let n = append-nil (lineOf cols st l .0) in
+    byCases (leb longestOutputLine (length out)) (λ t. rw (t, e, n)) (λ t. rw t)
 
 pub end-none : (cols : List ℕ) (st : State) (out : List ℕ) → _≡_ {A = LineEffect} (0, out, st) (endInto cols st [] out)
 unfolding endInto ended
@@ -187,50 +270,17 @@ module _ (cols : List ℕ) (st : State) (c chunk out : List ℕ) (e : ℕ) (firs
       ∙ sym (fed-plain cols st chunk c (omega arith) few))
       (omega arith) refl
 
-  module _ (at₁ : ℕ) (st₁ : State) (out₁ : List ℕ) (st₂ : State) (out₂ : List ℕ) (from at₂ : ℕ) (rest : List ℕ)
-      (less : e < length chunk) (printed : _≡_ {A = LineEffect} (at₁, out₁, st₁) (lineInto cols st first out))
-      (reached : Reached cols chunk st₁ (e + 1) out₁ at₁ st₂ from out₂ at₂)
+  module _ (st₁ : State) (out₁ : List ℕ) (from at : ℕ) (rest : List ℕ)
+      (reached : Reached cols (carrying st c) chunk out (carrying st₁ []) from out₁ at)
       (last : lineLength (drop from chunk) ≡ length chunk - from) (carried : rest ≡ take mostCarried (drop from chunk)) where
-    t : List ℕ
-    t = lineOf cols st first .0
-
-    line : _≡_ {A = Printed} (t, st₁) (lineOf cols st first)
-    unfolding t
-    line = line-leaves cols st first out 0 at₁ out₁ st₁ (omega arith) printed
-
-    appended : Appended out 0 t out₁ at₁
-    unfolding t
-    appended = rw (zero-add at₁) at (line-appended cols st first out 0 at₁ out₁ st₁ (omega arith) printed)
-
-    whole : fed cols (carrying st c) chunk ≡ after t (fed cols (carrying st₁ []) (drop (e + 1) chunk))
-    whole =
-        let m : lineLength chunk ≡ e = omega arith in
-        let s : suc e ≡ e + 1 = omega arith in
-        let l : lineOf cols st (c ++ take e chunk) ≡ (t, st₁) =
-        sym (line-take cols st (c ++ take e chunk)) ∙ ap (lineOf cols st) (sym start) ∙ sym line in
-        rw m at (fed-line cols st chunk c (omega arith)) ∙ rw (l, s)
-
-    left-over : fed cols (carrying st₂ []) (drop from chunk) ≡ ([], carrying st₂ rest)
+    left-over : fed cols (carrying st₁ []) (drop from chunk) ≡ ([], carrying st₁ rest)
     left-over =
         let n : lineLength (drop from chunk) ≡ length (drop from chunk) = last ∙ sym (length-drop from chunk) in
-        fed-plain cols st₂ (drop from chunk) [] n (omega arith) ∙ rw carried
+        fed-plain cols st₁ (drop from chunk) [] n (omega arith) ∙ rw carried
 
-    behind : drop at₂ out₂ ≡ drop at₂ out
-    behind =
-        let forth = reached .forth in
-        let d : at₂ ≡ at₁ + (at₂ - at₁) = omega arith in
-        reached .behind
-        ∙ ap (λ (n : ℕ). drop n out₁) d ∙ sym (drop-drop (at₂ - at₁) at₁ out₁) ∙ ap (drop (at₂ - at₁)) (appended .behind)
-        ∙ drop-drop (at₂ - at₁) at₁ out ∙ ap (λ (n : ℕ). drop n out) (sym d)
-
-    pub step-lines : _≡_ {A = Bool × ℕ × Fed × List ℕ} (true, at₂, carrying st₂ rest, out₂) (stepOf cols (carrying st c) chunk out)
+    pub step-lines : _≡_ {A = Bool × ℕ × Fed × List ℕ} (true, at, carrying st₁ rest, out₁) (stepOf cols (carrying st c) chunk out)
     step-lines =
         let size = reached .size in
         let within = reached .room in
-        let same : after (take at₂ out₂) (fed cols (carrying st₂ []) (drop from chunk)) ≡ fed cols (carrying st c) chunk =
-        sym (reached .same) ∙ ap (λ (w : List ℕ). after w (fed cols (carrying st₁ []) (drop (e + 1) chunk))) (appended .front) ∙ sym whole in
-        let all : (take at₂ out₂, carrying st₂ rest) ≡ fed cols (carrying st c) chunk = rw (left-over, append-nil (take at₂ out₂)) at same in
-        step-taken cols (carrying st c) chunk out room at₂ (carrying st₂ rest) out₂ all (omega arith) behind
-
-pub take-carried : (l : List ℕ) (k m : ℕ) → length l ≡ mostCarried → m ≡ cond (ltb k mostCarried) k mostCarried → take m l ≡ take k l
-take-carried l k m h e = take-least k m l (rw h e)
+        let all : (take at out₁, carrying st₁ rest) ≡ fed cols (carrying st c) chunk = rw (left-over, append-nil (take at out₁)) at (sym (reached .same)) in
+        step-taken cols (carrying st c) chunk out room at (carrying st₁ rest) out₁ all (omega arith) (reached .behind)

@@ -10,8 +10,9 @@ use borrow.Author.Tests.{ltb-true, ltb-false}
 use Rattle.basics.proofs.RangeLaws.{byCases}
 use Rattle.calls.specs.State.{State}
 use Rattle.parser.specs.Format.{prependByte, longestInputLine, parse}
-use Rattle.lines.specs.Line.{Printed, lineOf}
-use Rattle.lines.specs.Text.{linesOf, joined, lineLength, mostCarried, Fed, carrying, startState, programOf, printed, textOf, fedByte, fed, ended, chunked, after}
+use Rattle.line.specs.Line.{Printed, lineOf}
+use Rattle.lines.specs.Text.{linesOf, joined, mostCarried, Fed, carrying, startState, programOf, printed, textOf, fedByte, fed, ended, chunked, after}
+use Rattle.line_ends.specs.LineEnd.{lineLength}
 use Rattle.parser.proofs.FormatLaws.{parse-long}
 
 -- ---- the bytes that are carried are enough to know the line

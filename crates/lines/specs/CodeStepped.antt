@@ -10,7 +10,8 @@ use Rattle.print.specs.CodePrinted.{longestOutputLine}
 use Rattle.lines.specs.declared.buffers.Carry.{Carry}
 use Rattle.lines.specs.declared.feed.Kept.{Kept}
 use Rattle.lines.specs.declared.feed.Stepped.{Stepped}
-use Rattle.lines.specs.Text.{Fed, carrying, fed, after}
+use Rattle.line.specs.CodePrinted.{LineEffect, printedInto}
+use Rattle.lines.specs.Text.{mostCarried, Fed, carrying, fed, after, ended}
 
 -- the bytes of an unfinished line
 abbrev pub carriedOf : Carry → List ℕ
@@ -27,14 +28,18 @@ pub record Appended (out : List ℕ) (at : ℕ) (text out′ : List ℕ) (at′ 
   pub behind : drop at′ out′ ≡ drop at′ out
   pub size : length out′ ≡ length out
 
--- from one place in the input and the output to another: nothing that is read or printed in between is lost
-pub record Reached (cols chunk : List ℕ) (st : State) (from : ℕ) (out : List ℕ) (at : ℕ) (st′ : State) (from′ : ℕ) (out′ : List ℕ) (at′ : ℕ) : Type 0 where
-  pub same : after (take at out) (fed cols (carrying st []) (drop from chunk)) ≡ after (take at′ out′) (fed cols (carrying st′ []) (drop from′ chunk))
-  pub behind : drop at′ out′ ≡ drop at′ out
+-- from the start of a piece of input to another place in it and in the output: nothing that is read or printed in between is lost
+pub record Reached (cols : List ℕ) (f : Fed) (chunk out : List ℕ) (f′ : Fed) (from : ℕ) (out′ : List ℕ) (at : ℕ) : Type 0 where
+  pub same : fed cols f chunk ≡ after (take at out′) (fed cols f′ (drop from chunk))
+  pub behind : drop at out′ ≡ drop at out
   pub size : length out′ ≡ length out
-  pub forth : at ≤ at′
-  pub within : from′ ≤ length chunk
-  pub room : at′ + longestOutputLine * (length chunk - from′) ≤ length out
+  pub within : from ≤ length chunk
+  pub room : at + longestOutputLine * (length chunk - from) ≤ length out
+
+-- the same where `first` is the first line of the piece, which ends at `stop`, with what was carried before it, whatever that was
+unfoldable pub LinesReached : (cols : List ℕ) (st : State) (first chunk : List ℕ) (stop : ℕ) (out : List ℕ) (st′ : State) (from : ℕ) (out′ : List ℕ) (at : ℕ) → Type 0
+LinesReached cols st first chunk stop out st′ from out′ at =
+    (c : List ℕ) → first ≡ take mostCarried (c ++ take stop chunk) → Reached cols (carrying st c) chunk out (carrying st′ []) from out′ at
 
 -- a piece of input is taken if the output has room for the longest line for each of its bytes
 unfoldable pub stepOf : List ℕ → Fed → List ℕ → List ℕ → Bool × ℕ × Fed × List ℕ
@@ -47,3 +52,7 @@ stepOf cols f chunk out =
 -- what the code returned, with the cells and the output that it was lent
 abbrev pub stepped : Stepped → List ℕ → List ℕ → Bool × ℕ × Fed × List ℕ
 stepped x cells out = (x .taken, x .written, keptOf (x .kept) cells, out)
+
+-- the end of the input: what is carried is executed; nothing is done if the output has no room for the longest line
+unfoldable pub endInto : List ℕ → State → List ℕ → List ℕ → LineEffect
+endInto cols st carried out = cond (leb longestOutputLine (length out)) (printedInto out (ended cols st carried)) (0, out, st)

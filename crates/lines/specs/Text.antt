@@ -1,5 +1,5 @@
 -- A whole text, and a text that arrives in pieces. The columns of the check code come first.
-use Prim.Native.Nat.{ℕ, suc, _+_, _*_}
+use Prim.Native.Nat.{ℕ, _+_, _*_}
 use mathlib.Core.Bool.{cond}
 use mathlib.Core.List.{List, [], _∷_, _++_}
 use lib.Dec.{eqb}
@@ -7,17 +7,12 @@ use lib.ListN.{take, replicate}
 use Rattle.registers.specs.Record.{fresh}
 use Rattle.calls.specs.State.{State, state}
 use Rattle.parser.specs.Format.{prependByte, longestInputLine}
-use Rattle.lines.specs.Line.{Printed, lineOf}
+use Rattle.line.specs.Line.{Printed, lineOf}
 
 -- LINE-1: the lines of a text; bytes after the last LF are a line too
 unfoldable pub linesOf : List ℕ → List (List ℕ)
 linesOf [] = []
 linesOf (b ∷ bs) = cond (eqb b 0x0A) ([] ∷ linesOf bs) (prependByte b (linesOf bs))
-
--- the number of bytes before the first LF
-unfoldable pub lineLength : List ℕ → ℕ
-lineLength [] = 0
-lineLength (b ∷ bs) = cond (eqb b 0x0A) 0 (suc (lineLength bs))
 
 -- the pieces of a text, joined
 abbrev pub joined : List (List ℕ) → List ℕ

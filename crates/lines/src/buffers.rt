@@ -31,7 +31,7 @@ fn copy(src: &[u8], n: usize, dst: &mut [u8], at: usize)
     }
 }
 
-pub(crate) fn least(a: usize, b: usize) -> usize
+fn least(a: usize, b: usize) -> usize
     ensures { λ r. ⌜ r ≡ cond (ltb a b) a b ⌝ }
 {
     if a < b { a } else { b }
@@ -39,7 +39,7 @@ pub(crate) fn least(a: usize, b: usize) -> usize
 
 // The first `len` of these bytes and then those of a part, as far as there is room.
 pub(crate) fn joined(start: [u8; MOST_CARRIED], len: usize, part: &[u8]) -> Carry
-    ensures { λ r. ⌜ (carriedOf r ≡ take mostCarried (take len start ++ now (part .entry))) × (length (take len start) ≤ mostCarried) ⌝ }
+    ensures { λ r. ⌜ (carriedOf r ≡ take mostCarried (take len start ++ now (part .entry))) × (length (take len start) ≤ mostCarried) × (r .len ≤ mostCarried) ⌝ }
 {
     let mut bytes = start;
     let n = least(len, MOST_CARRIED);

@@ -1,22 +1,24 @@
 // Input in chunks of any length: what is kept between chunks, and what each of them prints.
 ghost use mathlib.Core.Path.{_≡_};
-ghost use Prim.Native.Nat.{_+_, _*_, _-_, _≤_};
+ghost use Prim.Native.Nat.{_+_, _*_, _-_, _<_, _≤_};
+ghost use mathlib.Core.Bool.{cond};
 ghost use mathlib.Core.List.{[]};
-ghost use lib.ListN.{length, drop};
+ghost use lib.Dec.{eqb};
+ghost use lib.ListN.{length, take, drop};
 ghost use Rattle.ecc.specs.Columns.{columns};
 ghost use Rattle.registers.specs.Record.{recordOf};
 ghost use Rattle.calls.specs.State.{state};
 ghost use Rattle.print.specs.CodePrinted.{longestOutputLine};
-ghost use Rattle.lines.specs.CodePrinted.{executed, executedInPlace, lineInto, endInto};
-ghost use Rattle.lines.specs.CodeStepped.{carriedOf, keptOf, Reached, stepOf, stepped};
-ghost use Rattle.lines.specs.Text.{lineLength, carrying, freshState};
+ghost use Rattle.line_ends.specs.LineEnd.{lineLength};
+ghost use Rattle.line.specs.CodePrinted.{executed};
+ghost use Rattle.lines.specs.CodeStepped.{carriedOf, keptOf, LinesReached, stepOf, stepped, endInto};
+ghost use Rattle.lines.specs.Text.{carrying, freshState};
 use crate::buffers::Carry;
 use crate::buffers::MOST_CARRIED;
 use crate::buffers::joined;
-use crate::buffers::least;
-use crate::line::Executed;
-use crate::line::execute_in_place;
-use crate::line_ends::line_end;
+use line::Executed;
+use line::execute_in_place;
+use line_ends::line_end;
 use print::LONGEST_OUTPUT_LINE;
 use registers::Registers;
 
@@ -67,38 +69,42 @@ pub fn start(cells: &mut [u8]) -> Kept
     }
 }
 
-// Executes the carried bytes as a line.
-fn carried_line(registers: &mut [u8; 256], cells: &mut [u8], carry: Carry, out: &mut [u8]) -> usize
-    ensures { λ n. ⌜ executedInPlace n (now (registers .exit)) (now (cells .exit)) (now (out .exit)) ≡ lineInto columns (state (recordOf (now (registers .entry))) (now (cells .entry))) (carriedOf carry) (now (out .entry)) ⌝ }
+// The line from an index of a chunk on to its LF; the first one begins with what was carried.
+fn line_from<'a>(first: &'a [u8], chunk: &'a [u8], from: usize, end: usize) -> &'a [u8]
+    requires { ⌜ (from ≤ end) × (end ≤ length (now chunk)) ⌝ }
+    ensures { λ r. ⌜ now r ≡ cond (eqb from 0) (now (first .entry)) (take (end - from) (drop from (now (chunk .entry)))) ⌝ }
 {
-    let bytes = carry.bytes;
-    let n = least(carry.len, MOST_CARRIED);
-    execute_in_place(registers, cells, &bytes[..n], out)
+    if from == 0 {
+        return first;
+    }
+    &chunk[from..end]
 }
 
-// Executes the complete lines of a chunk from an index on; a line starts there.
-fn whole_lines(
+// Executes the complete lines of a chunk that has one. `stop` is where the first one ends, and `first` is that line with what was carried.
+fn whole_lines<'a>(
     registers: &mut [u8; 256],
     cells: &mut [u8],
-    chunk: &[u8],
-    from: usize,
+    first: &'a [u8],
+    chunk: &'a [u8],
+    stop: usize,
     out: &mut [u8],
-    at: usize,
 ) -> Progress
-    requires { ⌜ (from ≤ length (now chunk)) × (at + longestOutputLine * (length (now chunk) - from) ≤ length (now out)) ⌝ }
-    ensures { λ r. ⌜ Reached columns (now (chunk .entry)) (state (recordOf (now (registers .entry))) (now (cells .entry))) from (now (out .entry)) at (state (recordOf (now (registers .exit))) (now (cells .exit))) (r .from) (now (out .exit)) (r .at) ⌝ }
+    requires { ⌜ (stop ≡ 0 + lineLength (drop 0 (now chunk))) × (stop < length (now chunk)) × (longestOutputLine * length (now chunk) ≤ length (now out)) ⌝ }
+    ensures { λ r. ⌜ LinesReached columns (state (recordOf (now (registers .entry))) (now (cells .entry))) (now (first .entry)) (now (chunk .entry)) stop (now (out .entry)) (state (recordOf (now (registers .exit))) (now (cells .exit))) (r .from) (now (out .exit)) (r .at) ⌝ }
     ensures { λ r. ⌜ lineLength (drop (r .from) (now (chunk .entry))) ≡ length (now (chunk .entry)) - r .from ⌝ }
 {
-    let mut i = from;
-    let mut n = at;
-    while i < chunk.len() {
-        let end = line_end(chunk, i);
+    let mut i: usize = 0;
+    let mut end = stop;
+    let mut n: usize = 0;
+    loop {
+        let line = line_from(first, chunk, i, end);
+        let printed = execute_in_place(registers, cells, line, &mut out[n..]);
+        n += printed;
+        i = end + 1;
+        end = line_end(chunk, i);
         if end == chunk.len() {
             break;
         }
-        let printed = execute_in_place(registers, cells, &chunk[i..end], &mut out[n..]);
-        n += printed;
-        i = end + 1;
     }
     Progress { from: i, at: n }
 }
@@ -130,9 +136,10 @@ pub fn step(kept: Kept, cells: &mut [u8], chunk: &[u8], out: &mut [u8]) -> Stepp
             written: 0,
         };
     }
+    let line = first.bytes;
+    let len = first.len;
     let mut after = registers.bytes;
-    let printed = carried_line(&mut after, cells, first, out);
-    let all = whole_lines(&mut after, cells, chunk, end + 1, out, printed);
+    let all = whole_lines(&mut after, cells, &line[..len], chunk, end, out);
     let from = all.from;
     let rest = joined([0; MOST_CARRIED], 0, &chunk[from..]);
     Stepped {
@@ -149,18 +156,19 @@ pub fn step(kept: Kept, cells: &mut [u8], chunk: &[u8], out: &mut [u8]) -> Stepp
 pub fn finish(kept: Kept, cells: &mut [u8], out: &mut [u8]) -> Executed
     ensures { λ x. ⌜ executed x (now (cells .exit)) (now (out .exit)) ≡ endInto columns (state (kept .registers) (now (cells .entry))) (carriedOf (kept .carry)) (now (out .entry)) ⌝ }
 {
-    let registers = kept.registers;
     let carry = kept.carry;
     if carry.len == 0 {
+        let registers = kept.registers;
         return Executed {
             registers: registers,
             printed: 0,
         };
     }
-    let mut after = registers.bytes;
-    let n = carried_line(&mut after, cells, carry, out);
+    let stepped = step(kept, cells, b"\n", out);
+    let after = stepped.kept;
+    let registers = after.registers;
     Executed {
-        registers: Registers { bytes: after },
-        printed: n,
+        registers: registers,
+        printed: stepped.written,
     }
 }

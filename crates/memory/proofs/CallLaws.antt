@@ -14,13 +14,11 @@ use Rattle.banks.specs.Judge.{notReady}
 use Rattle.banks.specs.Map.{inSpan, located, cellOf}
 use Rattle.banks.proofs.MapLaws.{isSome}
 use Rattle.calls.specs.declared.Kind.{Kind}
-use Rattle.calls.specs.declared.Kind.the-variants.{Flipped}
 use Rattle.calls.specs.Calls.{MemoryCall, read, write, flip, scrub, Access, readIn, writeIn, flipIn, scrubIn, addressOf, parts, Got, got}
 use Rattle.calls.specs.Spans.{byCount, byBit, byArguments, bySpans, byCall}
 use Rattle.calls.specs.State.{State, state}
 use Rattle.calls.specs.Answers.{Effect, effectOf}
 use Rattle.error_registers.specs.Errors.{reported}
-use Rattle.machine.specs.Cells.{onCell}
 use Rattle.machine.specs.Calls.{setup, spansOf, unlentAt, unlent, refusal, onTarget, accessAt, access, accesses, performed, memoryCall, called}
 use Rattle.memory.specs.CodeJudged.{judgedAt}
 
@@ -102,9 +100,3 @@ unfolding judgedAt
 judged-arguments st a d h =
     let later = unlentAt (cellOf (setup st) a) (st .cells) in
     else-left d later (else-right (notReady (setup st)) (d else later) h)
-
--- the answer of a flip changes no register
-pub flip-reports : (cols : List ℕ) (st : State) (a b k : ℕ) (x : Kind) (cells : List ℕ) → _≡_ (got x [], cells) (onTarget cols (some k) (st .cells) (flipIn a b))
-    → st .registers ≡ reported x a (st .registers)
-unfolding onTarget onCell reported
-flip-reports cols st a b k x cells h = let f : x ≡ Flipped = ap (λ (q : Got × List ℕ). q .0 .kind) h in rw f

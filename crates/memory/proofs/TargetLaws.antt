@@ -7,8 +7,7 @@ use native.Mathlib.Omega.{arith}
 use lib.ListN.{take, replicate}
 use Rattle.ecc.specs.declared.Reading.{Reading}
 use Rattle.ecc.specs.declared.Reading.the-variants as reading
-use Rattle.ecc.specs.Columns.{columns, columnsFor}
-use Rattle.ecc.specs.Doubleword.{lowBytes, bytesOfNumber}
+use Rattle.ecc.specs.Doubleword.{bytesOfNumber}
 use Rattle.ecc.specs.Lending.{putCell}
 use Rattle.machine.specs.Cells.{unlessLost, ifCorrected}
 use Rattle.machine.specs.Calls.{putAt}
@@ -29,12 +28,7 @@ take-same zero m v h = refl
 take-same (suc n) zero v h = absurd (omega arith)
 take-same (suc n) (suc m) v h = ap (λ (x : List ℕ). v ∷ x) (take-same n m v (omega arith))
 
--- if no columns are lent, those of ECC-2 are used
-pub no-columns : columnsFor [] ≡ columns
-unfolding columnsFor
-no-columns = refl
-
 -- MEM-9: a read that selects no bank puts FF in each byte of its buffer
 pub ones-taken : (n : ℕ) → n ≤ 8 → take n (bytesOfNumber 0xFFFFFFFFFFFFFFFF) ≡ replicate n 0xFF
-unfolding bytesOfNumber lowBytes
+unfolding bytesOfNumber
 ones-taken n h = take-same n 8 0xFF h

@@ -1,16 +1,17 @@
 -- What the code knows of a call before it changes anything. Only contracts of private functions use it.
-use Prim.Native.Nat.{ℕ}
+use Prim.Native.Nat.{ℕ, _+_, _-_}
 use mathlib.Core.Path.{_≡_}
 use mathlib.Core.Bool.{Bool, true, false, cond}
 use mathlib.Core.List.{List}
 use mathlib.Core.Option.{Option, none, some}
-use Rattle.refusals.specs.Paper.{paper, Declined, _else_}
+use lib.Dec.{eqb, leb}
+use Rattle.refusals.specs.Paper.{paper, Declined, Outcome, refused, given, _else_}
 use Rattle.refusals.specs.declared.Refusal.the-variants as refusal
 use Rattle.refusals.specs.declared.Verdict.{Verdict}
 use Rattle.refusals.specs.declared.Verdict.the-variants as verdict
 use Rattle.banks.specs.Judge.{notReady}
 use Rattle.banks.specs.Map.{cellOf}
-use Rattle.ecc.specs.Lending.{isLent}
+use Rattle.ecc.specs.Lending.{isWithin, isLent}
 use Rattle.ecc.specs.declared.Reading.{Reading}
 use Rattle.ecc.specs.declared.Reading.the-variants as reading
 use Rattle.calls.specs.State.{State}
@@ -22,14 +23,28 @@ use Rattle.memory.specs.declared.judge.Judged.the-variants.{Refused, NoB
 unfoldable pub judgedAt : State → ℕ → Declined → Declined
 judgedAt st a d = notReady (setup st) else d else unlentAt (cellOf (setup st) a) (st .cells)
 
--- the judgement of a call that goes to cell k, if nothing else refuses it
-abbrev pub lentCell : List ℕ → ℕ → Judged
-lentCell cells k = cond (isLent cells k) (Cell k) (Refused refusal.NotLent)
+-- what cell k comes to as a number, if so many bytes are lent: 2 if it is not wholly lent, and otherwise a number from 3 on
+abbrev pub placeOf : ℕ → ℕ → ℕ
+placeOf k bytes = cond (isWithin bytes k) (3 + k) 2
+
+-- what an address comes to: 0 if the record is not ready, 1 without a bank
+abbrev pub located : Outcome (Option ℕ) → ℕ → ℕ
+located (refused n) bytes = 0
+located (given none) bytes = 1
+located (given (some k)) bytes = placeOf k bytes
+
+-- what such a number means if no argument is refused
+abbrev pub destinationBy : ℕ → Judged
+destinationBy x = cond (leb 3 x) (Cell (x - 3)) (cond (eqb x 2) (Refused refusal.NotLent) NoBank)
 
 -- a refusal by the arguments comes first
 abbrev pub unlessDeclined : Verdict → Judged → Judged
 unlessDeclined verdict.Accepted j = j
 unlessDeclined (verdict.Refused x) j = Refused x
+
+-- 5 comes before it
+abbrev pub judgedBy : ℕ → Verdict → Judged
+judgedBy x v = cond (eqb x 0) (Refused refusal.NotReady) (unlessDeclined v (destinationBy x))
 
 -- what a judgement says about the refusal d and the cell o of the address
 abbrev pub Judges : Judged → Declined → Option ℕ → List ℕ → Type 0

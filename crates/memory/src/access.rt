@@ -1,12 +1,13 @@
 // One access to a lent cell: what it answers and what it stores. It is never refused. The columns of the check code are those that are lent,
-// or those of ECC-2 if none are.
+// or those of ECC-2 if none are. Most cells are clean: such a cell is handled without making a reading of it, which would go through memory.
 ghost use mathlib.Core.Path.{_≡_};
 ghost use mathlib.Core.Bool.{true, cond};
 ghost use mathlib.Core.List.{List, []};
 ghost use mathlib.Core.Option.{some};
-ghost use Prim.Native.Nat.{ℕ, _+_, _%_, _≤_};
+ghost use Prim.Native.Nat.{ℕ, _+_, _%_, _≤_, _<_};
 ghost use lib.ListN.{length};
 ghost use Rattle.ecc.specs.Columns.{columnsFor};
+ghost use Rattle.ecc.specs.CheckCode.{syndromeOf};
 ghost use Rattle.ecc.specs.Doubleword.{bytesOfNumber};
 ghost use Rattle.ecc.specs.Cell.{encode, loadOf};
 ghost use Rattle.ecc.specs.CodeLoad.{decodedOf};
@@ -18,7 +19,9 @@ ghost use Rattle.memory.specs.CodeJudged.{isLost, isCorrected};
 use crate::bytes::copy_out;
 use crate::bytes::joined;
 use crate::bytes::merged;
-use crate::lent::cell_at;
+use crate::lent::check_at;
+use crate::lent::doubleword_at;
+use crate::lent::flip_at;
 use crate::lent::put_cell;
 use calls::Kind;
 use ecc::Loaded;
@@ -55,23 +58,34 @@ fn is_corrected(reading: Reading) -> bool
     }
 }
 
-fn load(columns: &[u8], cells: &[u8], k: usize) -> Loaded
+// The syndrome of cell k.
+fn syndrome_at(lent: bool, columns: &[u8], cells: &[u8], k: usize) -> u8
     requires { ⌜ isLent (now cells) k ≡ true ⌝ }
-    ensures { λ x. ⌜ decodedOf x ≡ loadOf (columnsFor (now (columns .entry))) (cellAt (now (cells .entry)) k) ⌝ }
+    ensures { λ s. ⌜ s ≡ syndromeOf (columnsFor lent (now (columns .entry))) (cellAt (now (cells .entry)) k) ⌝ }
 {
-    ecc::load(columns, cell_at(cells, k))
+    let doubleword = doubleword_at(cells, k);
+    ecc::syndrome(lent, columns, doubleword, check_at(cells, k))
 }
 
-fn store_if(wanted: bool, columns: &[u8], cells: &mut [u8], k: usize, doubleword: u64)
+// What cell k gives, if s is its syndrome.
+fn load(lent: bool, columns: &[u8], cells: &[u8], k: usize, s: u8) -> Loaded
+    requires { ⌜ (isLent (now cells) k ≡ true) × (s ≡ syndromeOf (columnsFor lent (now columns)) (cellAt (now cells) k)) ⌝ }
+    ensures { λ x. ⌜ decodedOf x ≡ loadOf (columnsFor lent (now (columns .entry))) (cellAt (now (cells .entry)) k) ⌝ }
+{
+    ecc::correct(lent, columns, doubleword_at(cells, k), s)
+}
+
+fn store_if(wanted: bool, lent: bool, columns: &[u8], cells: &mut [u8], k: usize, doubleword: u64)
     requires { ⌜ isLent (now cells) k ≡ true ⌝ }
-    ensures { λ _. ⌜ now (cells .exit) ≡ cond wanted (putCell (now (cells .entry)) k (encode (columnsFor (now (columns .entry))) (bytesOfNumber doubleword))) (now (cells .entry)) ⌝ }
+    ensures { λ _. ⌜ now (cells .exit) ≡ cond wanted (putCell (now (cells .entry)) k (encode (columnsFor lent (now (columns .entry))) (bytesOfNumber doubleword))) (now (cells .entry)) ⌝ }
 {
     if wanted {
-        put_cell(cells, k, ecc::encode(columns, doubleword));
+        put_cell(cells, k, ecc::encode(lent, columns, doubleword));
     }
 }
 
 pub(crate) fn read_cell(
+    lent: bool,
     columns: &[u8],
     cells: &[u8],
     k: usize,
@@ -79,10 +93,16 @@ pub(crate) fn read_cell(
     buffer: &mut [u8],
 ) -> Kind
     requires { ⌜ (isLent (now cells) k ≡ true) × (address % 8 + length (now buffer) ≤ 8) ⌝ }
-    ensures { λ x. ⌜ (got x (now (buffer .exit)), now (cells .entry)) ≡ onTarget (columnsFor (now (columns .entry))) (some k) (now (cells .entry)) (readIn address (length (now (buffer .entry)))) ⌝ }
+    ensures { λ x. ⌜ (got x (now (buffer .exit)), now (cells .entry)) ≡ onTarget (columnsFor lent (now (columns .entry))) (some k) (now (cells .entry)) (readIn address (length (now (buffer .entry)))) ⌝ }
 {
-    let loaded = load(columns, cells, k);
-    copy_out(loaded.doubleword, (address % 8) as usize, buffer);
+    let offset = (address % 8) as usize;
+    let s = syndrome_at(lent, columns, cells, k);
+    if s == 0 {
+        copy_out(doubleword_at(cells, k), offset, buffer);
+        return Kind::Clean;
+    }
+    let loaded = load(lent, columns, cells, k, s);
+    copy_out(loaded.doubleword, offset, buffer);
     let reading = loaded.reading;
     kind_of(reading)
 }
@@ -90,6 +110,7 @@ pub(crate) fn read_cell(
 // MEM-4: a write of eight bytes does not look at the old cell. MEM-5, MEM-6: a shorter one corrects it, merges its bytes and stores, unless the
 // cell is uncorrectable.
 pub(crate) fn write_cell(
+    lent: bool,
     columns: &[u8],
     cells: &mut [u8],
     k: usize,
@@ -97,35 +118,58 @@ pub(crate) fn write_cell(
     bytes: &[u8],
 ) -> Kind
     requires { ⌜ (isLent (now cells) k ≡ true) × (address % 8 + length (now bytes) ≤ 8) ⌝ }
-    ensures { λ x. ⌜ (got x [], now (cells .exit)) ≡ onTarget (columnsFor (now (columns .entry))) (some k) (now (cells .entry)) (writeIn address (now (bytes .entry))) ⌝ }
+    ensures { λ x. ⌜ (got x [], now (cells .exit)) ≡ onTarget (columnsFor lent (now (columns .entry))) (some k) (now (cells .entry)) (writeIn address (now (bytes .entry))) ⌝ }
 {
     if bytes.len() == 8 {
-        store_if(true, columns, cells, k, joined(bytes));
+        store_if(true, lent, columns, cells, k, joined(bytes));
         return Kind::Stored;
     }
-    let loaded = load(columns, cells, k);
+    let offset = (address % 8) as usize;
+    let s = syndrome_at(lent, columns, cells, k);
+    if s == 0 {
+        let doubleword = merged(doubleword_at(cells, k), offset, bytes);
+        store_if(true, lent, columns, cells, k, doubleword);
+        return Kind::Clean;
+    }
+    let loaded = load(lent, columns, cells, k, s);
     let reading = loaded.reading;
-    let doubleword = merged(loaded.doubleword, (address % 8) as usize, bytes);
-    store_if(!is_lost(reading), columns, cells, k, doubleword);
+    let doubleword = merged(loaded.doubleword, offset, bytes);
+    store_if(!is_lost(reading), lent, columns, cells, k, doubleword);
     kind_of(reading)
 }
 
-pub(crate) fn scrub_cell(columns: &[u8], cells: &mut [u8], k: usize, address: u32) -> Kind
+pub(crate) fn scrub_cell(
+    lent: bool,
+    columns: &[u8],
+    cells: &mut [u8],
+    k: usize,
+    address: u32,
+) -> Kind
     requires { ⌜ isLent (now cells) k ≡ true ⌝ }
-    ensures { λ x. ⌜ (got x [], now (cells .exit)) ≡ onTarget (columnsFor (now (columns .entry))) (some k) (now (cells .entry)) (scrubIn address) ⌝ }
+    ensures { λ x. ⌜ (got x [], now (cells .exit)) ≡ onTarget (columnsFor lent (now (columns .entry))) (some k) (now (cells .entry)) (scrubIn address) ⌝ }
 {
-    let loaded = load(columns, cells, k);
+    let s = syndrome_at(lent, columns, cells, k);
+    if s == 0 {
+        return Kind::Clean;
+    }
+    let loaded = load(lent, columns, cells, k, s);
     let reading = loaded.reading;
-    store_if(is_corrected(reading), columns, cells, k, loaded.doubleword);
+    store_if(
+        is_corrected(reading),
+        lent,
+        columns,
+        cells,
+        k,
+        loaded.doubleword,
+    );
     kind_of(reading)
 }
 
 // MEM-7: a flip inverts a bit, whatever the columns are.
 pub(crate) fn flip_cell(cells: &mut [u8], k: usize, address: u32, bit: u32) -> Kind
-    requires { ⌜ isLent (now cells) k ≡ true ⌝ }
+    requires { ⌜ (isLent (now cells) k ≡ true) × (bit < 72) ⌝ }
     ensures { λ x. ⌜ ((cols : List ℕ) → _≡_ {A = Got × List ℕ} (got x [], now (cells .exit)) (onTarget cols (some k) (now (cells .entry)) (flipIn address bit))) ⌝ }
 {
-    let cell = cell_at(cells, k);
-    put_cell(cells, k, ecc::flip(cell, bit as usize));
+    flip_at(cells, k, bit as usize);
     Kind::Flipped
 }

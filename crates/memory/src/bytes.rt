@@ -10,16 +10,7 @@ pub(crate) fn joined(bytes: &[u8]) -> u64
     requires { ⌜ length (now bytes) ≡ 8 ⌝ }
     ensures { λ r. ⌜ bytesOfNumber r ≡ now (bytes .entry) ⌝ }
 {
-    ecc::joined([
-        bytes[0],
-        bytes[1],
-        bytes[2],
-        bytes[3],
-        bytes[4],
-        bytes[5],
-        bytes[6],
-        bytes[7],
-    ])
+    eight_bytes::number_at(bytes, 0)
 }
 
 // Byte k of a doubleword.

@@ -14,6 +14,7 @@ use crate::judge::Judged;
 use crate::judge::judge;
 use crate::judge::judge_bit;
 use crate::judge::judge_count;
+use crate::judge::locate;
 use calls::Answer;
 use calls::Kind;
 use calls::Part;
@@ -22,6 +23,8 @@ use refusals::Verdict;
 use registers::Registers;
 
 // No columns are lent, so those of the check code are the columns of ECC-2.
+const LENT: bool = false;
+
 const NO_COLUMNS: [u8; 0] = [];
 
 fn refuse(x: Refusal) -> Answer
@@ -63,8 +66,8 @@ pub fn read_in_place(
 ) -> Answer
     ensures { λ x. ⌜ leaves x (state (recordOf (now (registers .exit))) (now (cells .entry))) (now (buffer .exit)) ≡ readCall columns (state (recordOf (now (registers .entry))) (now (cells .entry))) address (now (buffer .entry)) ⌝ }
 {
-    let arguments = judge_count(address, buffer.len());
-    let judged = judge(Registers { bytes: *registers }, cells, address, arguments);
+    let x = locate(Registers { bytes: *registers }, cells.len(), address);
+    let judged = judge(x, judge_count(address, buffer.len()));
     match judged {
         Judged::Refused(x) => refuse(x),
         Judged::NoBank => {
@@ -72,7 +75,7 @@ pub fn read_in_place(
             report(registers, Kind::NoBank, address)
         }
         Judged::Cell(k) => {
-            let kind = access::read_cell(&NO_COLUMNS, cells, k, address, buffer);
+            let kind = access::read_cell(LENT, &NO_COLUMNS, cells, k, address, buffer);
             report(registers, kind, address)
         }
     }
@@ -86,13 +89,13 @@ pub fn write_in_place(
 ) -> Answer
     ensures { λ x. ⌜ leaves x (state (recordOf (now (registers .exit))) (now (cells .exit))) [] ≡ writeCall columns (state (recordOf (now (registers .entry))) (now (cells .entry))) address (now (bytes .entry)) ⌝ }
 {
-    let arguments = judge_count(address, bytes.len());
-    let judged = judge(Registers { bytes: *registers }, cells, address, arguments);
+    let x = locate(Registers { bytes: *registers }, cells.len(), address);
+    let judged = judge(x, judge_count(address, bytes.len()));
     match judged {
         Judged::Refused(x) => refuse(x),
         Judged::NoBank => report(registers, Kind::NoBank, address),
         Judged::Cell(k) => {
-            let kind = access::write_cell(&NO_COLUMNS, cells, k, address, bytes);
+            let kind = access::write_cell(LENT, &NO_COLUMNS, cells, k, address, bytes);
             report(registers, kind, address)
         }
     }
@@ -102,12 +105,8 @@ pub fn write_in_place(
 pub fn flip_in_place(registers: &[u8; 256], cells: &mut [u8], address: u32, bit: u32) -> Answer
     ensures { λ x. ⌜ leaves x (state (recordOf (now (registers .entry))) (now (cells .exit))) [] ≡ flipCall columns (state (recordOf (now (registers .entry))) (now (cells .entry))) address bit ⌝ }
 {
-    let judged = judge(
-        Registers { bytes: *registers },
-        cells,
-        address,
-        judge_bit(bit),
-    );
+    let x = locate(Registers { bytes: *registers }, cells.len(), address);
+    let judged = judge(x, judge_bit(bit));
     match judged {
         Judged::Refused(x) => refuse(x),
         Judged::NoBank => refuse(Refusal::FlipWithoutBank),
@@ -118,17 +117,13 @@ pub fn flip_in_place(registers: &[u8; 256], cells: &mut [u8], address: u32, bit:
 pub fn scrub_in_place(registers: &mut [u8; 256], cells: &mut [u8], address: u32) -> Answer
     ensures { λ x. ⌜ leaves x (state (recordOf (now (registers .exit))) (now (cells .exit))) [] ≡ scrubCall columns (state (recordOf (now (registers .entry))) (now (cells .entry))) address ⌝ }
 {
-    let judged = judge(
-        Registers { bytes: *registers },
-        cells,
-        address,
-        Verdict::Accepted,
-    );
+    let x = locate(Registers { bytes: *registers }, cells.len(), address);
+    let judged = judge(x, Verdict::Accepted);
     match judged {
         Judged::Refused(x) => refuse(x),
         Judged::NoBank => report(registers, Kind::NoBank, address),
         Judged::Cell(k) => {
-            let kind = access::scrub_cell(&NO_COLUMNS, cells, k, address);
+            let kind = access::scrub_cell(LENT, &NO_COLUMNS, cells, k, address);
             report(registers, kind, address)
         }
     }

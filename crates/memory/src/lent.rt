@@ -1,41 +1,28 @@
-// The cells that a caller lends: whether cell k is lent, and how it is read and replaced.
+// The cells that a caller lends: how cell k is read, replaced and flipped.
 ghost use mathlib.Core.Path.{_≡_};
 ghost use mathlib.Core.Bool.{true};
-ghost use lib.ListN.{length};
+ghost use Prim.Native.Nat.{_<_};
+ghost use lib.ListN.{length, getD, take};
+ghost use Rattle.ecc.specs.CheckCode.{flipBit};
+ghost use Rattle.ecc.specs.Doubleword.{bytesOfNumber};
 ghost use Rattle.ecc.specs.Lending.{cellAt, putCell, isLent};
+use crate::bytes::joined;
 
-// MEM-11: whether cell k is wholly lent. Multiplying k could overflow; dividing the length cannot.
-pub(crate) fn is_lent(cells: &[u8], k: usize) -> bool
-    ensures { λ r. ⌜ r ≡ isLent (now (cells .entry)) k ⌝ }
-{
-    k < cells.len() / 9
-}
-
-// The nine bytes of a slice, as an array.
-fn nine(part: &[u8]) -> [u8; 9]
-    requires { ⌜ length (now part) ≡ 9 ⌝ }
-    ensures { λ r. ⌜ r ≡ now (part .entry) ⌝ }
-{
-    [
-        part[0],
-        part[1],
-        part[2],
-        part[3],
-        part[4],
-        part[5],
-        part[6],
-        part[7],
-        part[8],
-    ]
-}
-
-// Cell k of the lent cells.
-pub(crate) fn cell_at(cells: &[u8], k: usize) -> [u8; 9]
+// The data bytes of cell k as they are stored, as a doubleword.
+pub(crate) fn doubleword_at(cells: &[u8], k: usize) -> u64
     requires { ⌜ isLent (now cells) k ≡ true ⌝ }
-    ensures { λ r. ⌜ r ≡ cellAt (now (cells .entry)) k ⌝ }
+    ensures { λ r. ⌜ bytesOfNumber r ≡ take 8 (cellAt (now (cells .entry)) k) ⌝ }
 {
     let a = 9 * k;
-    nine(&cells[a..a + 9])
+    joined(&cells[a..a + 8])
+}
+
+// The check byte that is stored in cell k.
+pub(crate) fn check_at(cells: &[u8], k: usize) -> u8
+    requires { ⌜ isLent (now cells) k ≡ true ⌝ }
+    ensures { λ r. ⌜ r ≡ getD (cellAt (now (cells .entry)) k) 8 0 ⌝ }
+{
+    cells[9 * k + 8]
 }
 
 // Stores nine bytes into a slice.
@@ -61,4 +48,22 @@ pub(crate) fn put_cell(cells: &mut [u8], k: usize, cell: [u8; 9])
 {
     let a = 9 * k;
     store(&mut cells[a..a + 9], cell);
+}
+
+// ECC-3: inverts a flip bit within nine bytes.
+fn invert(part: &mut [u8], b: usize)
+    requires { ⌜ (length (now part) ≡ 9) × (b < 72) ⌝ }
+    ensures { λ _. ⌜ now (part .exit) ≡ flipBit (now (part .entry)) b ⌝ }
+{
+    let i = b / 8;
+    part[i] = ecc::flip_byte(part[i], b);
+}
+
+// FORM-6: inverts a flip bit of cell k. One byte is stored, since eight that are read back after it would wait for it.
+pub(crate) fn flip_at(cells: &mut [u8], k: usize, b: usize)
+    requires { ⌜ (isLent (now cells) k ≡ true) × (b < 72) ⌝ }
+    ensures { λ _. ⌜ now (cells .exit) ≡ putCell (now (cells .entry)) k (flipBit (cellAt (now (cells .entry)) k) b) ⌝ }
+{
+    let a = 9 * k;
+    invert(&mut cells[a..a + 9], b);
 }

@@ -1,40 +1,16 @@
--- The parts of an answer as numbers, and what a memory call returns and leaves from its answer.
-use Prim.Native.Nat.{ℕ, zero, suc, _<_, _≤_}
-use native.Mathlib.Omega.{arith}
-use native.Mathlib.Nat.{not-suc-le-zero}
-use mathlib.Core.Path.{_≡_, refl, ap, sym, _∙_}
-use mathlib.Core.List.{List, [], _∷_}
-use lib.ListN.{length, getD, take}
-use lib.Seq.{take-all, length-take-le}
-use Rattle.calls.specs.declared.Part.{Part}
+-- What a memory call returns and leaves, from its answer.
+use Prim.Native.Nat.{ℕ}
+use mathlib.Core.Path.{_≡_, refl, ap, _∙_}
+use mathlib.Core.List.{List}
+use lib.ListN.{take}
+use Rattle.refusals.specs.Paper.{paperVerdict}
+use Rattle.refusals.specs.declared.Verdict.{Verdict}
+use Rattle.refusals.specs.declared.Verdict.the-variants as verdict
 use Rattle.calls.specs.declared.Answer.{Answer}
 use Rattle.calls.specs.State.{State}
-use Rattle.calls.specs.Answers.{Effect, kindsIn, paperAnswer, leaves}
-use Rattle.mpc106.specs.Results.{kindCode, partAt, answerNumbers, resultOf, returned}
+use Rattle.calls.specs.Answers.{Effect, kindsIn, unlessRefused, paperAnswer, leaves}
+use Rattle.results.specs.Results.{answerNumbers, resultOf, resultOfVerdict, returned}
 use Rattle.mpc106.specs.MemoryResults.{MemoryResult, memoryResult, resultOfCall, flipResult}
-
-pub part-within : (ps : List Part) (n i x : ℕ) (d : Part) → i < n → i < length ps → x ≡ kindCode (getD ps i d .kind) → x ≡ partAt (kindsIn (take n ps)) i
-part-within [] n i x d h k e = absurd (not-suc-le-zero k)
-part-within (p ∷ ps) zero i x d h k e = absurd (not-suc-le-zero h)
-part-within (p ∷ ps) (suc n) zero x d h k e = e
-part-within (p ∷ ps) (suc n) (suc i) x d h k e = part-within ps n i x d (omega arith) (omega arith) e
-
-pub part-past : (ps : List Part) (n i : ℕ) → n ≤ i → 0 ≡ partAt (kindsIn (take n ps)) i
-part-past [] zero i h = refl
-part-past (p ∷ ps) zero i h = refl
-part-past [] (suc n) i h = refl
-part-past (p ∷ ps) (suc n) zero h = absurd (not-suc-le-zero h)
-part-past (p ∷ ps) (suc n) (suc i) h = part-past ps n i (omega arith)
-
-kinds-length : (ps : List Part) → length (kindsIn ps) ≡ length ps
-kinds-length [] = refl
-kinds-length (p ∷ ps) = let e = kinds-length ps in omega arith
-
-pub few : (ps : List Part) (n : ℕ) → n ≤ length ps → n ≡ length (kindsIn (take n ps))
-few ps n h = sym (kinds-length (take n ps) ∙ length-take-le n ps h)
-
-pub many : (ps : List Part) (n : ℕ) → length ps ≤ n → length ps ≡ length (kindsIn (take n ps))
-many ps n h = sym (kinds-length (take n ps) ∙ ap length (take-all n ps h))
 
 pub result-of :
     {n : ℕ} {st : State} {buffer after : List ℕ} {e : Effect} (before : List ℕ) (x : Answer) →
@@ -43,7 +19,12 @@ pub result-of :
 result-of {st = st} {buffer = buffer} before x h k =
     ap (λ (r : ℕ × List ℕ). memoryResult (r .0) st buffer (r .1)) k ∙ ap (λ (e : Effect). resultOfCall e before) h
 
+-- a flip gives no more than its acceptance
+verdict-result : {A : Type 0} (v : Verdict) (y : A) → resultOfVerdict (paperVerdict v) ≡ resultOf (unlessRefused v y)
+verdict-result verdict.Accepted y = refl
+verdict-result (verdict.Refused r) y = refl
+
 pub flip-of :
     {n : ℕ} {st : State} {buffer : List ℕ} {e : Effect} (x : Answer) →
-    leaves x st buffer ≡ e → n ≡ resultOf (paperAnswer x) → (n, st) ≡ flipResult e
-flip-of {st = st} x h k = ap (λ (n : ℕ). (n, st)) k ∙ ap flipResult h
+    leaves x st buffer ≡ e → n ≡ resultOfVerdict (paperVerdict (x .verdict)) → (n, st) ≡ flipResult e
+flip-of {st = st} x h k = ap (λ (n : ℕ). (n, st)) (k ∙ verdict-result (x .verdict) (kindsIn (take (x .count) (x .parts)))) ∙ ap flipResult h

@@ -3,7 +3,7 @@ use Prim.Native.Nat.{ℕ}
 use mathlib.Core.List.{List}
 use Rattle.calls.specs.State.{State}
 use Rattle.calls.specs.Answers.{Effect}
-use Rattle.mpc106.specs.Results.{resultOf, numbersAfter, answerNumbers}
+use Rattle.results.specs.Results.{resultOf, numbersAfter, answerNumbers}
 
 -- what it returns, the record and the cells, the buffer (empty if none is lent), and the numbers lent for the answer
 pub record MemoryResult : Type 0 where

@@ -8,26 +8,24 @@ ghost use Rattle.registers.specs.Record.{fresh, recordOf};
 ghost use Rattle.banks.specs.Setup.{setupOf};
 ghost use Rattle.banks.specs.Judge.{judged, notReady};
 ghost use Rattle.banks.specs.Map.{mapped, cellCount};
-ghost use Rattle.banks.specs.WayBack.{back};
+ghost use Rattle.way_back.specs.WayBack.{back};
 ghost use Rattle.alike.specs.Alike.{compared};
 ghost use Rattle.register_calls.specs.Calls.{readAt, writeAt};
 ghost use Rattle.ecc.specs.Columns.{columns};
 ghost use Rattle.calls.specs.State.{state};
 ghost use Rattle.machine.specs.Calls.{readCall, writeCall, flipCall, scrubCall};
-ghost use Rattle.mpc106.specs.Results.{resultOfVerdict, returned, single, truth, placeNumbers, writeResult};
+ghost use Rattle.results.specs.Results.{resultOfVerdict, returned};
+ghost use Rattle.mpc106.specs.Given.{single, truth, placeNumbers, writeResult};
 ghost use Rattle.mpc106.specs.MemoryResults.{memoryResult, resultOfCall, flipResult};
-
-mod results;
-
 use alike::Comparison;
 use banks::CellCount;
 use banks::Column;
 use banks::Mapping;
-use banks::Origin;
 use banks::Row;
 use refusals::Refusal;
 use register_calls::RegisterRead;
 use registers::Registers;
+use way_back::Origin;
 
 #[no_mangle]
 pub extern "C" fn mpc106_raw_fresh(registers: &mut [u8; 256])
@@ -49,7 +47,7 @@ pub extern "C" fn mpc106_raw_judge(registers: &[u8; 256]) -> u32
 pub extern "C" fn mpc106_raw_cell_count(registers: &[u8; 256], count: &mut [u32; 1]) -> u32
     ensures { λ n. ⌜ (n, now (count .exit)) ≡ returned single (notReady (setupOf (recordOf (now (registers .entry)))) gives cellCount (setupOf (recordOf (now (registers .entry))))) (now (count .entry)) ⌝ }
 {
-    let cells = banks::cell_count(Registers { bytes: *registers });
+    let cells = address_map::cell_count(Registers { bytes: *registers });
     match cells {
         CellCount::NotReady => results::of_refusal(Refusal::NotReady),
         CellCount::Cells(k) => {
@@ -92,7 +90,7 @@ pub extern "C" fn mpc106_raw_register_write(
 pub extern "C" fn mpc106_raw_map(registers: &[u8; 256], address: u32, place: &mut [u32; 5]) -> u32
     ensures { λ n. ⌜ (n, now (place .exit)) ≡ returned placeNumbers (mapped (setupOf (recordOf (now (registers .entry)))) address) (now (place .entry)) ⌝ }
 {
-    let mapping = banks::map(Registers { bytes: *registers }, address);
+    let mapping = address_map::map(Registers { bytes: *registers }, address);
     match mapping {
         Mapping::Refused(x) => results::of_refusal(x),
         Mapping::NoBank => {
@@ -119,7 +117,7 @@ pub extern "C" fn mpc106_raw_way_back(
 ) -> u32
     ensures { λ n. ⌜ (n, now (address .exit)) ≡ returned single (back (setupOf (recordOf (now (registers .entry)))) bank (record { 0 = row }) (record { 0 = column })) (now (address .entry)) ⌝ }
 {
-    let origin = banks::way_back(
+    let origin = way_back::way_back(
         Registers { bytes: *registers },
         bank,
         Row(row),
@@ -193,7 +191,9 @@ pub extern "C" fn mpc106_raw_flip(
 ) -> u32
     ensures { λ n. ⌜ (n, state (recordOf (now (registers .entry))) (now (cells .exit))) ≡ flipResult (flipCall columns (state (recordOf (now (registers .entry))) (now (cells .entry))) address bit) ⌝ }
 {
-    results::of_answer(memory::flip_in_place(registers, cells, address, bit))
+    let given = memory::flip_in_place(registers, cells, address, bit);
+    let verdict = given.verdict;
+    results::of_verdict(verdict)
 }
 
 #[no_mangle]

@@ -3,7 +3,7 @@ use mathlib.Core.Path.{_≡_, refl, sym, ap, subst, _∙_}
 use mathlib.Core.Bool.{Bool, true, false, cond, _&&_, _||_}
 use mathlib.Core.List.{List, [], _∷_}
 use mathlib.Core.Option.{Option, none, some}
-use Prim.Native.Nat.{ℕ, zero, suc, _+_, _*_, _-_, _<_}
+use Prim.Native.Nat.{ℕ, zero, suc, _+_, _*_, _<_}
 use native.Mathlib.Omega.{arith}
 use lib.Dec.{T, ltb, eqb, leb·suc-zero, leb·suc-suc, eqb·suc-suc, eqb·suc-zero, eqb·zero-suc}
 use lib.ListN.{length, getD, take, drop, length-drop}
@@ -12,7 +12,7 @@ use borrow.Author.Tests.{lt-ltb, eq-eqb, ne-eqb}
 use Rattle.basics.proofs.RangeLaws.{byCases}
 use Rattle.basics.proofs.Bools.{or-left, or-right}
 use Rattle.calls.specs.Calls.{Call}
-use Rattle.parser.specs.Digits.{onSome, hexDigit, hexFrom, hexField}
+use Rattle.hex_digits.specs.Digits.{onSome, hexDigit, hexFrom, hexField}
 use Rattle.parser.specs.Format.{prependByte, fields, oneField, twoFields}
 use Rattle.parser.proofs.PlainLaws.{parted, Plain, onSome-none, comma-digit}
 

@@ -12,7 +12,7 @@ use borrow.Author.Tests.{lt-ltb, le-ltb, eqb-true, eq-eqb, ne-eqb}
 use Rattle.basics.proofs.RangeLaws.{byCases}
 use Rattle.basics.proofs.ListLaws.{from-take}
 use Rattle.calls.specs.Calls.{Call}
-use Rattle.parser.specs.Digits.{onSome, below, hexFrom, hexField}
+use Rattle.hex_digits.specs.Digits.{onSome, below, hexFrom, hexField}
 use Rattle.parser.specs.Format.{prependByte, fields, oneField, twoFields, byLetter, byFields, longestInputLine, parse}
 use Rattle.parser.proofs.DigitLaws.{drop-is, field-is, field-lacks}
 use Rattle.parser.proofs.PlainLaws.{hexField-plain}

@@ -1,5 +1,4 @@
 pub mod DigitLaws
-pub mod EightLaws
 pub mod ByteLaws
 pub mod PlainLaws
 pub mod FieldLaws

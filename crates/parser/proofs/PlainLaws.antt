@@ -3,12 +3,12 @@ use mathlib.Core.Path.{_≡_, refl}
 use mathlib.Core.Bool.{Bool, true, false, cond, _&&_, _||_}
 use mathlib.Core.List.{List, [], _∷_}
 use mathlib.Core.Option.{Option, none, some}
-use Prim.Native.Nat.{ℕ, _+_, _*_, _-_}
+use Prim.Native.Nat.{ℕ, _+_, _*_}
 use lib.Dec.{leb, ltb, eqb}
 use lib.ListN.{length}
 use borrow.Author.Tests.{eqb-true}
 use Rattle.basics.proofs.RangeLaws.{byCases}
-use Rattle.parser.specs.Digits.{onSome, decimalDigit, hexDigit, hexFrom, hexField, decimalField, hexBytes, bytesField}
+use Rattle.hex_digits.specs.Digits.{onSome, decimalDigit, hexDigit, hexFrom, hexField, decimalField, hexBytes, bytesField}
 
 -- a comma stands in it
 abbrev pub parted : List ℕ → Bool

@@ -6,7 +6,7 @@ use mathlib.Core.Option.{Option, none, some}
 use lib.Dec.{ltb, eqb}
 use lib.ListN.{length}
 use Rattle.calls.specs.Calls.{read, write, flip, scrub, Call, memory, readRegister, writeRegister}
-use Rattle.parser.specs.Digits.{onSome, hexField, decimalField, bytesField}
+use Rattle.hex_digits.specs.Digits.{onSome, hexField, decimalField, bytesField}
 
 -- a byte put in front of the first field of a line
 abbrev pub prependByte : ℕ → List (List ℕ) → List (List ℕ)

@@ -2,7 +2,7 @@
 ghost use mathlib.Core.Path.{_≡_};
 ghost use Prim.Native.Nat.{_+_, _*_, _≤_};
 ghost use lib.ListN.{length, drop};
-ghost use Rattle.parser.specs.Digits.{hexBytes};
+ghost use Rattle.hex_digits.specs.Digits.{hexBytes};
 ghost use Rattle.parser.specs.CodeParsed.{bytesRead};
 use crate::digits::hex_pair;
 

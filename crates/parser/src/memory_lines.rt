@@ -4,7 +4,7 @@ ghost use Prim.Native.Nat.{ℕ, _≤_};
 ghost use mathlib.Core.List.{[]};
 ghost use lib.ListN.{length, drop};
 ghost use Rattle.calls.specs.Calls.{Call, memory, read, flip, write, scrub};
-ghost use Rattle.parser.specs.Digits.{below, hexField, decimalField, bytesField};
+ghost use Rattle.hex_digits.specs.Digits.{below, hexField, decimalField, bytesField};
 ghost use Rattle.parser.specs.Format.{fields, oneField, twoFields};
 ghost use Rattle.parser.specs.CodeParsed.{asked, meant, withBoth};
 use crate::bytes::hex_bytes;

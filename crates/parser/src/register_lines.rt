@@ -4,7 +4,7 @@ ghost use Prim.Native.Nat.{_≤_};
 ghost use mathlib.Core.List.{[]};
 ghost use lib.ListN.{length, drop};
 ghost use Rattle.calls.specs.Calls.{readRegister, writeRegister};
-ghost use Rattle.parser.specs.Digits.{hexField};
+ghost use Rattle.hex_digits.specs.Digits.{hexField};
 ghost use Rattle.parser.specs.Format.{fields, oneField, twoFields};
 ghost use Rattle.parser.specs.CodeParsed.{asked};
 use crate::digits::hex_pair;

@@ -11,13 +11,17 @@ use lib.Seq.{take-all, take-suc, sets, sets-eq}
 use borrow.Author.Tests.{ltb-true, ltb-false, lt-ltb, le-ltb, le-leb, lt-leb}
 use Rattle.basics.proofs.RangeLaws.{byCases}
 use Rattle.basics.proofs.ListLaws.{sets-append}
+use Rattle.refusals.specs.declared.Refusal.the-variants.{MalformedLine}
+use Rattle.refusals.specs.declared.Verdict.{Verdict}
+use Rattle.refusals.specs.declared.Verdict.the-variants.{Accepted, Refused}
+use Rattle.refusals.specs.Paper.{Declined, paperVerdict}
 use Rattle.calls.specs.declared.Part.{Part}
 use Rattle.calls.specs.declared.Answer.{Answer}
 use Rattle.calls.specs.Calls.{read, write, flip, scrub}
-use Rattle.calls.specs.Answers.{kindsIn, paperAnswer}
+use Rattle.calls.specs.Answers.{kindsIn, unlessRefused, paperAnswer}
 use Rattle.print.specs.Digits.{hexCharacter, hexPairs, decimal}
-use Rattle.print.specs.Output.{refusedText, kindLetter, kindsText, callText, answerText}
-use Rattle.print.specs.CodePrinted.{longestOutputLine, atStart, printInto, kindsLine, flipLine, readLine}
+use Rattle.print.specs.Output.{refusedText, verdictText, malformedText, registerWriteText, outcomeText, kindLetter, kindsText, callText, answerText}
+use Rattle.print.specs.CodePrinted.{longestOutputLine, atStart, printInto, kindsLine, readLine}
 
 -- ---- the lesser of two numbers
 
@@ -124,10 +128,24 @@ module _ (bs : List ℕ) (x : Answer) where
   unfolding callText answerText
   scrub-text a = refl
 
-  pub flip-text : (a b : ℕ) → callText (flip a b) (paperAnswer x) bs ≡ flipLine x
-  unfolding callText answerText
-  flip-text a b = refl
-
   pub read-text : (a n : ℕ) → callText (read a n) (paperAnswer x) bs ≡ readLine x bs
   unfolding callText answerText
   read-text a n = refl
+
+-- ---- the texts that are a letter and a verdict
+
+pub flip-text : (bs : List ℕ) (x : Answer) (a b : ℕ) → callText (flip a b) (paperAnswer x) bs ≡ verdictText 0x66 (paperVerdict (x .verdict))
+unfolding callText answerText
+flip-text bs x a b = go (x .verdict)
+  where
+    go : (v : Verdict) → outcomeText 0x66 (answerText (flip a b) bs) (unlessRefused v (kindsIn (take (x .count) (x .parts)))) ≡ verdictText 0x66 (paperVerdict v)
+    go Accepted = refl
+    go (Refused r) = refl
+
+pub register-write-text : (d : Declined) → verdictText 0x63 d ≡ registerWriteText d
+unfolding registerWriteText
+register-write-text d = refl
+
+pub malformed-text : verdictText 0x3F (paperVerdict (Refused MalformedLine)) ≡ malformedText
+unfolding malformedText
+malformed-text = refl

@@ -1,7 +1,7 @@
 -- What the code puts out: a text at the start of the lent output.
 use Prim.Native.Nat.{ℕ}
 use mathlib.Core.Bool.{cond}
-use mathlib.Core.List.{List, [], _++_}
+use mathlib.Core.List.{List, _++_}
 use lib.Dec.{leb}
 use lib.ListN.{length, drop}
 use Rattle.calls.specs.declared.Answer.{Answer}
@@ -23,10 +23,6 @@ printInto text out = cond (leb longestOutputLine (length out)) (atStart text out
 -- the line of a write or a scrub, by its letter
 abbrev pub kindsLine : ℕ → Answer → List ℕ
 kindsLine l x = outcomeText l kindsText (paperAnswer x)
-
--- the line of a flip
-abbrev pub flipLine : Answer → List ℕ
-flipLine x = outcomeText 0x66 (λ ks. []) (paperAnswer x)
 
 -- the line of a read
 abbrev pub readLine : Answer → List ℕ → List ℕ

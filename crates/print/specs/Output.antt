@@ -17,14 +17,18 @@ refusedText l n = l ∷ 0x2C ∷ decimal n ++ 0x0A ∷ []
 abbrev pub acceptedText : ℕ → List ℕ → List ℕ
 acceptedText l more = l ∷ 0x2C ∷ 0x30 ∷ more ++ 0x0A ∷ []
 
+-- LINE-12: a line by its letter, with nothing that follows the 0
+abbrev pub verdictText : ℕ → Declined → List ℕ
+verdictText l none = acceptedText l []
+verdictText l (some n) = refusedText l (getD n 0 0)
+
 -- LINE-11, REF-18: a malformed line
 unfoldable pub malformedText : List ℕ
 malformedText = refusedText 0x3F 18
 
 -- LINE-13: a register write
 unfoldable pub registerWriteText : Declined → List ℕ
-registerWriteText none = acceptedText 0x63 []
-registerWriteText (some n) = refusedText 0x63 (getD n 0 0)
+registerWriteText d = verdictText 0x63 d
 
 -- LINE-12: a call by its letter, with the text that follows the 0 if it was accepted
 abbrev pub outcomeText : {A : Type 0} → ℕ → (A → List ℕ) → Outcome A → List ℕ

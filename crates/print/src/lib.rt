@@ -4,40 +4,30 @@ ghost use mathlib.Core.Path.{_≡_};
 ghost use lib.ListN.{take};
 ghost use Rattle.refusals.specs.Paper.{paperVerdict};
 ghost use Rattle.register_calls.specs.Calls.{paperRegisterRead};
-ghost use Rattle.print.specs.Output.{malformedText, registerWriteText, registerReadText};
-ghost use Rattle.print.specs.CodePrinted.{printInto, kindsLine, flipLine, readLine};
+ghost use Rattle.print.specs.Output.{verdictText, registerReadText};
+ghost use Rattle.print.specs.CodePrinted.{printInto, kindsLine, readLine};
 
 mod digits;
 mod text;
 
 use calls::Answer;
-use refusals::Refusal;
 use refusals::Verdict;
 use register_calls::RegisterRead;
 
 // The length of the longest output line, with its LF: that of a read of eight bytes in four parts.
 pub const LONGEST_OUTPUT_LINE: usize = 29;
 
-// The line for a malformed line.
-pub fn malformed(out: &mut [u8]) -> usize
-    ensures { λ n. ⌜ (n, now (out .exit)) ≡ printInto malformedText (now (out .entry)) ⌝ }
-{
-    if out.len() < LONGEST_OUTPUT_LINE {
-        return 0;
-    }
-    text::refused(0x3f, refusals::number(Refusal::MalformedLine), out)
-}
-
-// The line for a register write.
-pub fn register_write(verdict: Verdict, out: &mut [u8]) -> usize
-    ensures { λ n. ⌜ (n, now (out .exit)) ≡ printInto (registerWriteText (paperVerdict verdict)) (now (out .entry)) ⌝ }
+// The line, by its letter, of what prints nothing more if it was accepted: a register write and a flip, which print no answer (LINE-13), and a
+// malformed line.
+pub fn verdict_line(letter: u8, verdict: Verdict, out: &mut [u8]) -> usize
+    ensures { λ n. ⌜ (n, now (out .exit)) ≡ printInto (verdictText letter (paperVerdict verdict)) (now (out .entry)) ⌝ }
 {
     if out.len() < LONGEST_OUTPUT_LINE {
         return 0;
     }
     match verdict {
-        Verdict::Accepted => text::accepted(0x63, out),
-        Verdict::Refused(x) => text::refused(0x63, refusals::number(x), out),
+        Verdict::Accepted => text::accepted(letter, out),
+        Verdict::Refused(x) => text::refused(letter, refusals::number(x), out),
     }
 }
 
@@ -71,28 +61,14 @@ pub fn kinds(letter: u8, answer: Answer, out: &mut [u8]) -> usize
     }
 }
 
-// LINE-13: a flip prints no answer.
-pub fn flip(answer: Answer, out: &mut [u8]) -> usize
-    ensures { λ n. ⌜ (n, now (out .exit)) ≡ printInto (flipLine answer) (now (out .entry)) ⌝ }
+// The line for a read of these bytes; what stands behind the first 8 is left out.
+pub fn read(answer: Answer, bytes: &[u8], out: &mut [u8]) -> usize
+    ensures { λ n. ⌜ (n, now (out .exit)) ≡ printInto (readLine answer (take 8 (now (bytes .entry)))) (now (out .entry)) ⌝ }
 {
     if out.len() < LONGEST_OUTPUT_LINE {
         return 0;
     }
-    let verdict = answer.verdict;
-    match verdict {
-        Verdict::Refused(x) => text::refused(0x66, refusals::number(x), out),
-        Verdict::Accepted => text::accepted(0x66, out),
-    }
-}
-
-// The line for a read that filled the first `count` of these bytes; a count above 8 counts as 8.
-pub fn read(answer: Answer, bytes: [u8; 8], count: usize, out: &mut [u8]) -> usize
-    ensures { λ n. ⌜ (n, now (out .exit)) ≡ printInto (readLine answer (take count bytes)) (now (out .entry)) ⌝ }
-{
-    if out.len() < LONGEST_OUTPUT_LINE {
-        return 0;
-    }
-    let n = text::least(count, 8);
+    let n = text::least(8, bytes.len());
     let verdict = answer.verdict;
     match verdict {
         Verdict::Refused(x) => text::refused(0x72, refusals::number(x), out),

@@ -2,11 +2,11 @@
 // a bank whose last megabyte is 255, 256 or 1023 (REG-5).
 use banks::Column;
 use banks::Mapping;
-use banks::Origin;
 use banks::Place;
 use banks::Row;
 use refusals::Refusal;
 use registers::Registers;
+use way_back::Origin;
 
 // The record after a register write. If the write is refused the record is unchanged, which shows in the lines printed.
 fn set(r: Registers, offset: u8, value: u8) -> Registers {
@@ -63,7 +63,7 @@ fn print_place(p: Place) {
 
 fn print_map(r: Registers, address: u32) {
     io::print_hex(1, address as u64, 8);
-    let mapping = banks::map(r, address);
+    let mapping = address_map::map(r, address);
     match mapping {
         Mapping::Refused(x) => print_refusal(x),
         Mapping::NoBank => {
@@ -78,7 +78,7 @@ fn print_way_back(r: Registers, bank: u32, row: u32, column: u32) {
     print_number(b"bank ", bank);
     print_number(b" row ", row);
     print_number(b" column ", column);
-    let origin = banks::way_back(r, bank, Row(row), Column(column));
+    let origin = way_back::way_back(r, bank, Row(row), Column(column));
     match origin {
         Origin::Refused(x) => print_refusal(x),
         Origin::Address(a) => {

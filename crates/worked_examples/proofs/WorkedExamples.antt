@@ -9,8 +9,9 @@ use Rattle.refusals.specs.Paper.{given, refused}
 use Rattle.banks.specs.Setup.{startOf, lastOf, enabledOf, rowBits, megabytes, fits, columnBits, enabledBank, bankOf, setupOf, bank}
 use Rattle.banks.specs.Judge.{lowest, inverted, tooLong, faulty, faultOf, meets, meetsLower, lowestMeeting, judged, ready, notReady}
 use Rattle.banks.specs.Map.{holds, bankAt, cells, cellInBank, rowOf, columnOf, share, cellsBelow, placeOf, inSpan, located, mapped}
-use Rattle.banks.specs.WayBack.{spanEnd, inRange, addressAt, back}
-use Rattle.banks.proofs.WayBackLaws.{address-none}
+use Rattle.way_back.specs.WayBack.{spanEnd, inRange, back}
+use Rattle.way_back.specs.CodeAddress.{addressAt}
+use Rattle.way_back.proofs.WayBackLaws.{address-none}
 use Rattle.ecc.specs.declared.Reading.the-variants.{Corrected, Uncorrectable}
 use Rattle.ecc.specs.Columns.{columns}
 use Rattle.ecc.specs.CheckCode.{bitAt, dataBit, flipColumn, xorOf, checkOf, bitReading, readingOf}

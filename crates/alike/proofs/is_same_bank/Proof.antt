@@ -4,12 +4,6 @@ use borrow.Author.Needs.{needs}
 use Rattle.alike.proofs.is_same_bank.Statement.{statement}
 use Rattle.alike.proofs.is_same_bank.Tie as tie
 
-is-same-part-requires : tie.Need-is-same-part-requires
-is-same-part-requires c κs = search needs
-
-is-same-part-requires-2 : tie.Need-is-same-part-requires-2
-is-same-part-requires-2 c κs = search needs
-
 returns : tie.Need-returns
 returns c =
     let a = c .before .before .before .before .before .before .before .before .before .args in
@@ -21,4 +15,4 @@ returns-2 c = simp (c .before .before .if1 .left)
 
 pub is-same-bank-spec : {M : Type 1} → statement M
 is-same-bank-spec =
-    tie.close (tie.spec is-same-part-requires is-same-part-requires-2 returns returns-2)
+    tie.close (tie.spec (λ c κs. search needs) (λ c κs. search needs) returns returns-2)

@@ -6,12 +6,6 @@ use borrow.Author.Needs.{needs}
 use Rattle.alike.proofs.is_same_part.Statement.{statement}
 use Rattle.alike.proofs.is_same_part.Tie as tie
 
-row-requires : tie.Need-row-requires
-row-requires c κs = search needs
-
-row-requires-2 : tie.Need-row-requires-2
-row-requires-2 c κs = search needs
-
 returns : tie.Need-returns
 unfolding samePart
 returns c =
@@ -20,4 +14,4 @@ returns c =
     simp (c .row2 .ensures, c .before .row .ensures, s)
 
 pub is-same-part-spec : {M : Type 1} → statement M
-is-same-part-spec = tie.close (tie.spec row-requires row-requires-2 returns)
+is-same-part-spec = tie.close (tie.spec (λ c κs. search needs) (λ c κs. search needs) returns)

@@ -8,17 +8,8 @@ use borrow.Author.Needs.{needs}
 use Rattle.alike.proofs.row.Statement.{statement}
 use Rattle.alike.proofs.row.Tie as tie
 
-add-result : tie.Need-add-result
-add-result c = search needs
-
-shl-result : tie.Need-shl-result
-shl-result c = search needs
-
 sub-result : tie.Need-sub-result
 sub-result c = let b = c .before .args .b in omega (arith, one-shl 32 (b .rows + b .columns) (omega arith), pow-pos (b .rows + b .columns))
-
-shr-result : tie.Need-shr-result
-shr-result c = search needs
 
 returns : tie.Need-returns
 unfolding rowOf cellInBank cells
@@ -28,4 +19,4 @@ returns c =
     rw (one-shl 32 k (omega arith), and-mask (a .address / 8) k)
 
 pub row-spec : {M : Type 1} → statement M
-row-spec = tie.close (tie.spec add-result shl-result sub-result shr-result returns)
+row-spec = tie.close (tie.spec (λ c. search needs) (λ c. search needs) sub-result (λ c. search needs) returns)

@@ -12,21 +12,9 @@ returns : tie.Need-returns
 unfolding flipBit
 returns c = sym (set-out _ (c .before .args .b / 8) _ (omega (arith, number-length (c .before .args .doubleword))))
 
-mul-result : tie.Need-mul-result
-mul-result c = search needs
-
-sub-result : tie.Need-sub-result
-sub-result c = search needs
-
-add-result : tie.Need-add-result
-add-result c = search needs
-
-shl-result : tie.Need-shl-result
-shl-result c = search needs
-
 returns-2 : tie.Need-returns-2
 returns-2 c = number-flip (c .before .args .doubleword) (c .before .args .b) (omega arith)
 
 pub with-bit-flipped-spec : {M : Type 1} → statement M
 with-bit-flipped-spec =
-    tie.close (tie.spec returns mul-result sub-result add-result shl-result returns-2)
+    tie.close (tie.spec returns (λ c. search needs) (λ c. search needs) (λ c. search needs) (λ c. search needs) returns-2)

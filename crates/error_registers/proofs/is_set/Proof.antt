@@ -8,15 +8,9 @@ use borrow.Author.Needs.{needs}
 use Rattle.error_registers.proofs.is_set.Statement.{statement}
 use Rattle.error_registers.proofs.is_set.Tie as tie
 
-element-copy-out-result : tie.Need-element-copy-out-result
-element-copy-out-result c = search needs
-
-shr-result : tie.Need-shr-result
-shr-result c = search needs
-
 returns : tie.Need-returns
 unfolding bitSet
 returns c = let a = c .before .args in ap (λ (x : ℕ). eqb x 1) (and-mask (getD (a .registers .now) (a .offset) 0 / 2 ^ a .bit) 1)
 
 pub is-set-spec : {M : Type 1} → statement M
-is-set-spec = tie.close (tie.spec element-copy-out-result shr-result returns)
+is-set-spec = tie.close (tie.spec (λ c. search needs) (λ c. search needs) returns)

@@ -3,39 +3,6 @@ use borrow.Author.Needs.{needs}
 use Rattle.error_registers.proofs.report.Statement.{statement}
 use Rattle.error_registers.proofs.report.Tie as tie
 
-enum-told : tie.Need-enum-told
-enum-told c = search needs
-
-enum-told-2 : tie.Need-enum-told-2
-enum-told-2 c = search needs
-
-count-requires : tie.Need-count-requires
-count-requires c κs = search needs
-
-enum-told-3 : tie.Need-enum-told-3
-enum-told-3 c = search needs
-
-is-set-requires : tie.Need-is-set-requires
-is-set-requires c κs = search needs
-
-detect-requires : tie.Need-detect-requires
-detect-requires c κs = search needs
-
-enum-told-4 : tie.Need-enum-told-4
-enum-told-4 c = search needs
-
-enum-told-5 : tie.Need-enum-told-5
-enum-told-5 c = search needs
-
-is-set-requires-2 : tie.Need-is-set-requires-2
-is-set-requires-2 c κs = search needs
-
-detect-requires-2 : tie.Need-detect-requires-2
-detect-requires-2 c κs = search needs
-
-enum-told-6 : tie.Need-enum-told-6
-enum-told-6 c = search needs
-
 returns : tie.Need-returns
 unfolding reported
 returns c = simp (c .enum-told .given .1)
@@ -72,17 +39,17 @@ pub report-spec : {M : Type 1} → statement M
 report-spec =
     tie.close
     (tie.spec
-    enum-told
-    enum-told-2
-    count-requires
-    enum-told-3
-    is-set-requires
-    detect-requires
-    enum-told-4
-    enum-told-5
-    is-set-requires-2
-    detect-requires-2
-    enum-told-6
+    (λ c. search needs)
+    (λ c. search needs)
+    (λ c κs. search needs)
+    (λ c. search needs)
+    (λ c κs. search needs)
+    (λ c κs. search needs)
+    (λ c. search needs)
+    (λ c. search needs)
+    (λ c κs. search needs)
+    (λ c κs. search needs)
+    (λ c. search needs)
     returns
     returns-2
     returns-3

@@ -2,21 +2,6 @@ use borrow.Author.Needs.{needs}
 use Rattle.mpc106.proofs.mpc106_raw_alike.Statement.{statement}
 use Rattle.mpc106.proofs.mpc106_raw_alike.Tie as tie
 
-compare-requires : tie.Need-compare-requires
-compare-requires c κs = search needs
-
-enum-known-comparison : tie.Need-enum-known-comparison
-enum-known-comparison c = search needs
-
-of-refusal-requires : tie.Need-of-refusal-requires
-of-refusal-requires c κs = search needs
-
-enum-told : tie.Need-enum-told
-enum-told c = search needs
-
-enum-told-2 : tie.Need-enum-told-2
-enum-told-2 c = search needs
-
 returns : tie.Need-returns
 returns c = simp (← c .before .before .before .before .compare .ensures, c .before .before .comparison .given .1, c .of-refusal .ensures)
 
@@ -30,11 +15,11 @@ pub mpc106-raw-alike-spec : {M : Type 1} → statement M
 mpc106-raw-alike-spec =
     tie.close
     (tie.spec
-    compare-requires
-    enum-known-comparison
-    of-refusal-requires
-    enum-told
-    enum-told-2
+    (λ c κs. search needs)
+    (λ c. search needs)
+    (λ c κs. search needs)
+    (λ c. search needs)
+    (λ c. search needs)
     returns
     returns-2
     returns-3)

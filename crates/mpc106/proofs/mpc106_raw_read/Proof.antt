@@ -3,18 +3,9 @@ use borrow.Author.Needs.{needs}
 use Rattle.mpc106.proofs.mpc106_raw_read.Statement.{statement}
 use Rattle.mpc106.proofs.mpc106_raw_read.Tie as tie
 
-read-in-place-requires : tie.Need-read-in-place-requires
-read-in-place-requires c κs = search needs
-
-give-answer-requires : tie.Need-give-answer-requires
-give-answer-requires c κs = search needs
-
-same-length : tie.Need-same-length
-same-length c = search needs
-
 returns : tie.Need-returns
 returns c = let d = c .before .before .before .before .read-in-place in result-of (c .before .before .before .before .before .before .before .before .before .args .answer .now) (d .result) (d .ensures) (c .give-answer .ensures)
 
 pub mpc106-raw-read-spec : {M : Type 1} → statement M
 mpc106-raw-read-spec =
-    tie.close (tie.spec read-in-place-requires give-answer-requires same-length returns)
+    tie.close (tie.spec (λ c κs. search needs) (λ c κs. search needs) (λ c. search needs) returns)

@@ -5,29 +5,14 @@ use borrow.Author.Needs.{needs}
 use Rattle.parser.proofs.parse.Statement.{statement}
 use Rattle.parser.proofs.parse.Tie as tie
 
-malformed-requires : tie.Need-malformed-requires
-malformed-requires c κs = search needs
-
 returns : tie.Need-returns
 returns c = (c .malformed .ensures .0 ∙ sym (parse-short (c .before .before .before .args .line .now) (c .before .if1 .taken)), c .malformed .ensures .1)
-
-malformed-requires-2 : tie.Need-malformed-requires-2
-malformed-requires-2 c κs = search needs
 
 returns-2 : tie.Need-returns-2
 returns-2 c = (c .malformed2 .ensures .0 ∙ sym (parse-long (c .before .before .before .before .args .line .now) (c .before .if2 .taken)), c .malformed2 .ensures .1)
 
-shared-slice-read-comma : tie.Need-shared-slice-read-comma
-shared-slice-read-comma c = search needs
-
-malformed-requires-3 : tie.Need-malformed-requires-3
-malformed-requires-3 c κs = search needs
-
 returns-3 : tie.Need-returns-3
 returns-3 c = (c .malformed3 .ensures .0 ∙ sym (parse-unparted (c .before .before .before .before .before .before .args .line .now) (c .before .if3 .taken)), c .malformed3 .ensures .1)
-
-by-letter-requires : tie.Need-by-letter-requires
-by-letter-requires c κs = search needs
 
 returns-4 : tie.Need-returns-4
 returns-4 c = (c .by-letter .ensures .0 ∙ sym (parse-letter (c .before .before .before .before .before .before .args .line .now) (omega arith) (omega arith) (c .before .if3 .left)), c .by-letter .ensures .1)
@@ -36,12 +21,12 @@ pub parse-spec : {M : Type 1} → statement M
 parse-spec =
     tie.close
     (tie.spec
-    malformed-requires
+    (λ c κs. search needs)
     returns
-    malformed-requires-2
+    (λ c κs. search needs)
     returns-2
-    shared-slice-read-comma
-    malformed-requires-3
+    (λ c. search needs)
+    (λ c κs. search needs)
     returns-3
-    by-letter-requires
+    (λ c κs. search needs)
     returns-4)

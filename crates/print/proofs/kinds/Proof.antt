@@ -15,32 +15,11 @@ use Rattle.print.proofs.kinds.Tie as tie
 returns : tie.Need-returns
 returns c = print-none _ (c .before .before .args .out .now) (omega arith)
 
-enum-known-verdict : tie.Need-enum-known-verdict
-enum-known-verdict c = search needs
-
-number-requires : tie.Need-number-requires
-number-requires c κs = search needs
-
-refused-requires : tie.Need-refused-requires
-refused-requires c κs = search needs
-
-enum-told : tie.Need-enum-told
-enum-told c = search needs
-
-kinds-requires : tie.Need-kinds-requires
-kinds-requires c κs = search needs
-
-same-length : tie.Need-same-length
-same-length c = search needs
-
 returns-2 : tie.Need-returns-2
 returns-2 c =
     let a = c .before .before .before .before .before .before .before .before .before .before .args in
     let text : Verdict → List ℕ = λ v. outcomeText (a .letter) kindsText (unlessRefused v (kindsIn (take (a .answer .count) (a .answer .parts)))) in
     print-is _ _ (text (a .answer .verdict)) (a .out .now) _ (omega arith) (c .before .before .refused .ensures) (ap (refusedText (a .letter)) (c .before .before .before .before .number .ensures) ∙ sym (ap text (c .before .before .before .before .before .before .verdict .given .1)))
-
-same-length-2 : tie.Need-same-length-2
-same-length-2 c = search needs
 
 returns-3 : tie.Need-returns-3
 returns-3 c =
@@ -53,12 +32,12 @@ kinds-spec =
     tie.close
     (tie.spec
     returns
-    enum-known-verdict
-    number-requires
-    refused-requires
-    enum-told
-    kinds-requires
-    same-length
+    (λ c. search needs)
+    (λ c κs. search needs)
+    (λ c κs. search needs)
+    (λ c. search needs)
+    (λ c κs. search needs)
+    (λ c. search needs)
     returns-2
-    same-length-2
+    (λ c. search needs)
     returns-3)

@@ -11,32 +11,11 @@ use Rattle.print.proofs.register_read.Tie as tie
 returns : tie.Need-returns
 returns c = print-none _ (c .before .before .args .out .now) (omega arith)
 
-enum-known-reading : tie.Need-enum-known-reading
-enum-known-reading c = search needs
-
-number-requires : tie.Need-number-requires
-number-requires c κs = search needs
-
-refused-requires : tie.Need-refused-requires
-refused-requires c κs = search needs
-
-enum-known-reading-2 : tie.Need-enum-known-reading-2
-enum-known-reading-2 c = search needs
-
-value-requires : tie.Need-value-requires
-value-requires c κs = search needs
-
-same-length : tie.Need-same-length
-same-length c = search needs
-
 returns-2 : tie.Need-returns-2
 unfolding registerReadText
 returns-2 c =
     let a = c .before .before .before .before .before .before .before .before .before .before .args in
     print-is _ _ (registerReadText (paperRegisterRead (a .reading))) (a .out .now) _ (omega arith) (c .before .before .refused .ensures) (ap (refusedText 0x67) (c .before .before .before .before .number .ensures) ∙ sym (ap (λ (x : RegisterRead). registerReadText (paperRegisterRead x)) (c .before .before .before .before .before .before .reading .given .1)))
-
-same-length-2 : tie.Need-same-length-2
-same-length-2 c = search needs
 
 returns-3 : tie.Need-returns-3
 unfolding registerReadText
@@ -49,12 +28,12 @@ register-read-spec =
     tie.close
     (tie.spec
     returns
-    enum-known-reading
-    number-requires
-    refused-requires
-    enum-known-reading-2
-    value-requires
-    same-length
+    (λ c. search needs)
+    (λ c κs. search needs)
+    (λ c κs. search needs)
+    (λ c. search needs)
+    (λ c κs. search needs)
+    (λ c. search needs)
     returns-2
-    same-length-2
+    (λ c. search needs)
     returns-3)

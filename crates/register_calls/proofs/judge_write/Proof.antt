@@ -6,9 +6,6 @@ use borrow.Author.Needs.{needs}
 use Rattle.register_calls.proofs.judge_write.Statement.{statement}
 use Rattle.register_calls.proofs.judge_write.Tie as tie
 
-is-listed-requires : tie.Need-is-listed-requires
-is-listed-requires c κs = search needs
-
 returns : tie.Need-returns
 unfolding declined
 returns c = simp (← c .before .is-listed .ensures, c .if1 .taken)
@@ -16,32 +13,17 @@ returns c = simp (← c .before .is-listed .ensures, c .if1 .taken)
 cast-o : tie.Need-cast-o
 cast-o c = record { fits = listed-below (c .before .before .args .offset) (sym (c .before .is-listed .ensures) ∙ not-false (c .before .is-listed .result) (c .if1 .left)) }
 
-is-read-only-requires : tie.Need-is-read-only-requires
-is-read-only-requires c κs = search needs
-
 returns-2 : tie.Need-returns-2
 unfolding declined
 returns-2 c = simp (c .if2 .taken, ← c .before .is-read-only .ensures, c .before .before .if1 .left, ← c .before .before .before .is-listed .ensures)
-
-is-bad-value-requires : tie.Need-is-bad-value-requires
-is-bad-value-requires c κs = search needs
 
 returns-3 : tie.Need-returns-3
 unfolding declined
 returns-3 c = simp (c .if3 .taken, ← c .before .is-bad-value .ensures, c .before .before .if2 .left, ← c .before .before .before .is-read-only .ensures, c .before .before .before .before .if1 .left, ← c .before .before .before .before .before .is-listed .ensures)
 
-is-on-requires : tie.Need-is-on-requires
-is-on-requires c κs = search needs
-
-is-locked-requires : tie.Need-is-locked-requires
-is-locked-requires c κs = search needs
-
 returns-4 : tie.Need-returns-4
 unfolding declined
 returns-4 c = simp (c .if4 .taken, ← c .before .is-locked .ensures, ← c .before .before .is-on .ensures, c .before .before .before .if3 .left, ← c .before .before .before .before .is-bad-value .ensures, c .before .before .before .before .before .if2 .left, ← c .before .before .before .before .before .before .is-read-only .ensures, c .before .before .before .before .before .before .before .if1 .left, ← c .before .before .before .before .before .before .before .before .is-listed .ensures)
-
-judge-requires : tie.Need-judge-requires
-judge-requires c κs = search needs
 
 returns-5 : tie.Need-returns-5
 unfolding declined switchesOn
@@ -55,16 +37,16 @@ pub judge-write-spec : {M : Type 1} → statement M
 judge-write-spec =
     tie.close
     (tie.spec
-    is-listed-requires
+    (λ c κs. search needs)
     returns
     cast-o
-    is-read-only-requires
+    (λ c κs. search needs)
     returns-2
-    is-bad-value-requires
+    (λ c κs. search needs)
     returns-3
-    is-on-requires
-    is-locked-requires
+    (λ c κs. search needs)
+    (λ c κs. search needs)
     returns-4
-    judge-requires
+    (λ c κs. search needs)
     returns-5
     returns-6)

@@ -3,15 +3,6 @@ use borrow.Author.Needs.{needs}
 use Rattle.register_calls.proofs.new_byte.Statement.{statement}
 use Rattle.register_calls.proofs.new_byte.Tie as tie
 
-is-clearing-requires : tie.Need-is-clearing-requires
-is-clearing-requires c κs = search needs
-
-byte-requires : tie.Need-byte-requires
-byte-requires c κs = search needs
-
-sub-result : tie.Need-sub-result
-sub-result c = search needs
-
 returns : tie.Need-returns
 unfolding newByte
 returns c = simp (← c .before .before .is-clearing .ensures, c .before .if1 .taken, c .byte .ensures)
@@ -22,4 +13,4 @@ returns-2 c = simp (← c .before .is-clearing .ensures, c .if1 .left)
 
 pub new-byte-spec : {M : Type 1} → statement M
 new-byte-spec =
-    tie.close (tie.spec is-clearing-requires byte-requires sub-result returns returns-2)
+    tie.close (tie.spec (λ c κs. search needs) (λ c κs. search needs) (λ c. search needs) returns returns-2)

@@ -5,14 +5,8 @@ use borrow.Author.Needs.{needs}
 use Rattle.register_calls.proofs.read.Statement.{statement}
 use Rattle.register_calls.proofs.read.Tie as tie
 
-is-listed-requires : tie.Need-is-listed-requires
-is-listed-requires c κs = search needs
-
 cast-byte : tie.Need-cast-byte
 cast-byte c = record { fits = listed-below (c .before .before .args .offset) (sym (c .before .is-listed .ensures) ∙ c .if1 .taken) }
-
-byte-requires : tie.Need-byte-requires
-byte-requires c κs = search needs
 
 returns : tie.Need-returns
 unfolding readAt
@@ -23,4 +17,4 @@ unfolding readAt
 returns-2 c = simp (← c .before .is-listed .ensures, c .if1 .left)
 
 pub read-spec : {M : Type 1} → statement M
-read-spec = tie.close (tie.spec is-listed-requires cast-byte byte-requires returns returns-2)
+read-spec = tie.close (tie.spec (λ c κs. search needs) cast-byte (λ c κs. search needs) returns returns-2)

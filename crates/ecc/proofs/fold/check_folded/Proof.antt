@@ -6,15 +6,6 @@ use borrow.Author.Needs.{needs}
 use Rattle.ecc.proofs.fold.check_folded.Statement.{statement}
 use Rattle.ecc.proofs.fold.check_folded.Tie as tie
 
-folded-masks-requires : tie.Need-folded-masks-requires
-folded-masks-requires c κs = search needs
-
-parities-requires : tie.Need-parities-requires
-parities-requires c κs = search needs
-
-gathered-requires : tie.Need-gathered-requires
-gathered-requires c κs = search needs
-
 returns : tie.Need-returns
 unfolding foldedCheck
 returns c =
@@ -23,4 +14,4 @@ returns c =
 
 pub check-folded-spec : {M : Type 1} → statement M
 check-folded-spec =
-    tie.close (tie.spec folded-masks-requires parities-requires gathered-requires returns)
+    tie.close (tie.spec (λ c κs. search needs) (λ c κs. search needs) (λ c κs. search needs) returns)

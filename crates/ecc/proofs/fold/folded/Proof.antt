@@ -3,12 +3,9 @@ use borrow.Author.Needs.{needs}
 use Rattle.ecc.proofs.fold.folded.Statement.{statement}
 use Rattle.ecc.proofs.fold.folded.Tie as tie
 
-rotated-requires : tie.Need-rotated-requires
-rotated-requires c κs = search needs
-
 returns : tie.Need-returns
 unfolding folded
 returns c = simp (c .rotated .ensures)
 
 pub folded-spec : {M : Type 1} → statement M
-folded-spec = tie.close (tie.spec rotated-requires returns)
+folded-spec = tie.close (tie.spec (λ c κs. search needs) returns)

@@ -4,12 +4,9 @@ use borrow.Author.Needs.{needs}
 use Rattle.ecc.proofs.fold.over_shifted.Statement.{statement}
 use Rattle.ecc.proofs.fold.over_shifted.Tie as tie
 
-shr-result : tie.Need-shr-result
-shr-result c = search needs
-
 returns : tie.Need-returns
 unfolding overShifted
 returns c = refl
 
 pub over-shifted-spec : {M : Type 1} → statement M
-over-shifted-spec = tie.close (tie.spec shr-result returns)
+over-shifted-spec = tie.close (tie.spec (λ c. search needs) returns)

@@ -3,15 +3,6 @@ use borrow.Author.Needs.{needs}
 use Rattle.ecc.proofs.fold.parities.Statement.{statement}
 use Rattle.ecc.proofs.fold.parities.Tie as tie
 
-over-shifted-requires : tie.Need-over-shifted-requires
-over-shifted-requires c κs = search needs
-
-over-shifted-requires-2 : tie.Need-over-shifted-requires-2
-over-shifted-requires-2 c κs = search needs
-
-over-shifted-requires-3 : tie.Need-over-shifted-requires-3
-over-shifted-requires-3 c κs = search needs
-
 returns : tie.Need-returns
 unfolding parities
 returns c = simp (c .over-shifted3 .ensures, c .before .over-shifted2 .ensures, c .before .before .over-shifted .ensures)
@@ -19,4 +10,4 @@ returns c = simp (c .over-shifted3 .ensures, c .before .over-shifted2 .ensures, 
 pub parities-spec : {M : Type 1} → statement M
 parities-spec =
     tie.close
-    (tie.spec over-shifted-requires over-shifted-requires-2 over-shifted-requires-3 returns)
+    (tie.spec (λ c κs. search needs) (λ c κs. search needs) (λ c κs. search needs) returns)

@@ -9,17 +9,8 @@ use borrow.Author.Needs.{needs}
 use Rattle.lines.proofs.buffers.joined.Statement.{statement}
 use Rattle.lines.proofs.buffers.joined.Tie as tie
 
-least-requires : tie.Need-least-requires
-least-requires c κs = search needs
-
 sub-least : tie.Need-sub-least
 sub-least c = let h = least-le (c .before .before .args .len) mostCarried (c .least .result) (c .least .ensures) in omega arith
-
-least-requires-2 : tie.Need-least-requires-2
-least-requires-2 c κs = search needs
-
-slice-aggregate-copy : tie.Need-slice-aggregate-copy
-slice-aggregate-copy c = search needs
 
 copy-requires : tie.Need-copy-requires
 copy-requires c κs =
@@ -39,16 +30,23 @@ returns : tie.Need-returns
 returns c =
     let a = c .before .before .before .before .before .before .args in
     let l : length (a .start) ≡ mostCarried = search needs in
-    (rw (c .before .copy .ensures) (extended-is (a .start) (a .part .now) (a .len) (c .before .before .before .before .least .result) (c .before .before .before .least2 .result) l (c .before .before .before .before .least .ensures) (c .before .before .before .least2 .ensures)), simp length-take (omega arith))
+    let n = c .before .before .before .before .least in
+    let more = c .before .before .before .least2 in
+    let h = least-le (a .len) mostCarried (n .result) (n .ensures) in
+    let k = least-le (mostCarried - n .result) (length (a .part .now)) (more .result) (more .ensures) in (
+      rw (c .before .copy .ensures) (extended-is (a .start) (a .part .now) (a .len) (n .result) (more .result) l (n .ensures) (more .ensures)),
+      simp length-take (omega arith),
+      omega arith,
+    )
 
 pub joined-spec : {M : Type 1} → statement M
 joined-spec =
     tie.close
     (tie.spec
-    least-requires
+    (λ c κs. search needs)
     sub-least
-    least-requires-2
-    slice-aggregate-copy
+    (λ c κs. search needs)
+    (λ c. search needs)
     copy-requires
     add-t7
     returns)

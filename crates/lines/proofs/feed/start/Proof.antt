@@ -8,17 +8,8 @@ use borrow.Author.Needs.{needs}
 use Rattle.lines.proofs.feed.start.Statement.{statement}
 use Rattle.lines.proofs.feed.start.Tie as tie
 
-clear-requires : tie.Need-clear-requires
-clear-requires c κs = search needs
-
-fresh-requires : tie.Need-fresh-requires
-fresh-requires c κs = search needs
-
-same-length : tie.Need-same-length
-same-length c = search needs
-
 returns : tie.Need-returns
 returns c = ap₂ (λ (r : Registers) (l : List ℕ). carrying (state r l) []) (c .fresh .ensures) (c .before .before .before .clear .ensures)
 
 pub start-spec : {M : Type 1} → statement M
-start-spec = tie.close (tie.spec clear-requires fresh-requires same-length returns)
+start-spec = tie.close (tie.spec (λ c κs. search needs) (λ c κs. search needs) (λ c. search needs) returns)

@@ -6,14 +6,8 @@ use borrow.Author.Needs.{needs}
 use Rattle.memory.proofs.in_place.report.Statement.{statement}
 use Rattle.memory.proofs.in_place.report.Tie as tie
 
-report-requires : tie.Need-report-requires
-report-requires c κs = search needs
-
-answer-requires : tie.Need-answer-requires
-answer-requires c κs = search needs
-
 returns : tie.Need-returns
 returns c = (c .answer .ensures, ap recordOf (c .before .report .ensures))
 
 pub report-spec : {M : Type 1} → statement M
-report-spec = tie.close (tie.spec report-requires answer-requires returns)
+report-spec = tie.close (tie.spec (λ c κs. search needs) (λ c κs. search needs) returns)

@@ -20,9 +20,6 @@ returns c = simp (c .if1 .taken)
 sub-if2 : tie.Need-sub-if2
 sub-if2 c = omega (arith, few (c .before .args .count) (c .if1 .left))
 
-cast-if2 : tie.Need-cast-if2
-cast-if2 c = search needs
-
 returns-2 : tie.Need-returns-2
 unfolding byCount
 returns-2 c =
@@ -36,4 +33,4 @@ returns-3 c =
     simp (c .before .if1 .left, le-ltb 8 (a .address % 8 + a .count) (omega (arith, few (a .count) (c .before .if1 .left))))
 
 pub judge-count-spec : {M : Type 1} → statement M
-judge-count-spec = tie.close (tie.spec returns sub-if2 cast-if2 returns-2 returns-3)
+judge-count-spec = tie.close (tie.spec returns sub-if2 (λ c. search needs) returns-2 returns-3)

@@ -16,20 +16,8 @@ mul-a c = omega (arith, lent-fits (c .before .args .cells .now) (c .before .args
 add-store : tie.Need-add-store
 add-store c = omega (arith, lent-fits (c .before .args .cells .now) (c .before .args .k) (c .before .pre))
 
-sub-store : tie.Need-sub-store
-sub-store c = search needs
-
-part-store-start : tie.Need-part-store-start
-part-store-start c = search needs
-
 part-store-end : tie.Need-part-store-end
 part-store-end c = omega (arith, lent-fits (c .before .args .cells .now) (c .before .args .k) (c .before .pre))
-
-store-requires : tie.Need-store-requires
-store-requires c κs = search needs
-
-same-length : tie.Need-same-length
-same-length c = search needs
 
 returns : tie.Need-returns
 unfolding putCell
@@ -45,9 +33,9 @@ put-cell-spec =
     (tie.spec
     mul-a
     add-store
-    sub-store
-    part-store-start
+    (λ c. search needs)
+    (λ c. search needs)
     part-store-end
-    store-requires
-    same-length
+    (λ c κs. search needs)
+    (λ c. search needs)
     returns)

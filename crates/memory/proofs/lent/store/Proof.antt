@@ -6,56 +6,17 @@ use Rattle.basics.proofs.ListLaws.{listFrom, from-all, all-stored}
 use Rattle.memory.proofs.lent.store.Statement.{statement}
 use Rattle.memory.proofs.lent.store.Tie as tie
 
-array-read-part : tie.Need-array-read-part
-array-read-part c = search needs
-
-slice-write-part : tie.Need-slice-write-part
-slice-write-part c = search needs
-
-array-read-part-2 : tie.Need-array-read-part-2
-array-read-part-2 c = search needs
-
-slice-write-part-2 : tie.Need-slice-write-part-2
-slice-write-part-2 c = search needs
-
-array-read-part-3 : tie.Need-array-read-part-3
-array-read-part-3 c = search needs
-
-slice-write-part-3 : tie.Need-slice-write-part-3
-slice-write-part-3 c = search needs
-
-array-read-part-4 : tie.Need-array-read-part-4
-array-read-part-4 c = search needs
-
-slice-write-part-4 : tie.Need-slice-write-part-4
-slice-write-part-4 c = search needs
-
-array-read-part-5 : tie.Need-array-read-part-5
-array-read-part-5 c = search needs
-
 slice-write-part-5 : tie.Need-slice-write-part-5
 slice-write-part-5 c = simp length-set (omega arith)
-
-array-read-part-6 : tie.Need-array-read-part-6
-array-read-part-6 c = search needs
 
 slice-write-part-6 : tie.Need-slice-write-part-6
 slice-write-part-6 c = simp length-set (omega arith)
 
-array-read-part-7 : tie.Need-array-read-part-7
-array-read-part-7 c = search needs
-
 slice-write-part-7 : tie.Need-slice-write-part-7
 slice-write-part-7 c = simp length-set (omega arith)
 
-array-read-part-8 : tie.Need-array-read-part-8
-array-read-part-8 c = search needs
-
 slice-write-part-8 : tie.Need-slice-write-part-8
 slice-write-part-8 c = simp length-set (omega arith)
-
-array-read-part-9 : tie.Need-array-read-part-9
-array-read-part-9 c = search needs
 
 slice-write-part-9 : tie.Need-slice-write-part-9
 slice-write-part-9 c = simp length-set (omega arith)
@@ -73,23 +34,23 @@ pub store-spec : {M : Type 1} → statement M
 store-spec =
     tie.close
     (tie.spec
-    array-read-part
-    slice-write-part
-    array-read-part-2
-    slice-write-part-2
-    array-read-part-3
-    slice-write-part-3
-    array-read-part-4
-    slice-write-part-4
-    array-read-part-5
+    (λ c. search needs)
+    (λ c. search needs)
+    (λ c. search needs)
+    (λ c. search needs)
+    (λ c. search needs)
+    (λ c. search needs)
+    (λ c. search needs)
+    (λ c. search needs)
+    (λ c. search needs)
     slice-write-part-5
-    array-read-part-6
+    (λ c. search needs)
     slice-write-part-6
-    array-read-part-7
+    (λ c. search needs)
     slice-write-part-7
-    array-read-part-8
+    (λ c. search needs)
     slice-write-part-8
-    array-read-part-9
+    (λ c. search needs)
     slice-write-part-9
     same-length
     returns)

@@ -3,7 +3,7 @@ use native.Mathlib.Omega.{arith}
 use mathlib.Core.Path.{_≡_, refl, ap, _∙_}
 use mathlib.Core.Option.{some}
 use lib.ListN.{length, take, drop, length-set}
-use Rattle.parser.specs.Digits.{hexBytes}
+use Rattle.hex_digits.specs.Digits.{hexBytes}
 use Rattle.parser.proofs.ByteLaws.{prefixed, prefixed-nil, bytes-next, bytes-stop, bytes-end}
 use Rattle.parser.proofs.bytes.hex_bytes.Statement.{statement}
 use Rattle.parser.proofs.bytes.hex_bytes.Tie as tie

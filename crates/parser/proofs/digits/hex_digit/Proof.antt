@@ -1,7 +1,7 @@
 use Prim.Native.Nat.{_-_}
 use native.Mathlib.Omega.{arith}
 use mathlib.Core.Path.{sym}
-use Rattle.parser.specs.Digits.{hexDigit, decimalDigit}
+use Rattle.hex_digits.specs.Digits.{hexDigit, decimalDigit}
 use Rattle.parser.proofs.DigitLaws.{below-some, in-range}
 use Rattle.parser.proofs.digits.hex_digit.Statement.{statement}
 use Rattle.parser.proofs.digits.hex_digit.Tie as tie

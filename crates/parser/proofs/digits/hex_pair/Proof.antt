@@ -6,24 +6,6 @@ use borrow.Author.Needs.{needs}
 use Rattle.parser.proofs.digits.hex_pair.Statement.{statement}
 use Rattle.parser.proofs.digits.hex_pair.Tie as tie
 
-hex-digit-requires : tie.Need-hex-digit-requires
-hex-digit-requires c κs = search needs
-
-cast-high : tie.Need-cast-high
-cast-high c = search needs
-
-hex-digit-requires-2 : tie.Need-hex-digit-requires-2
-hex-digit-requires-2 c κs = search needs
-
-cast-low : tie.Need-cast-low
-cast-low c = search needs
-
-mul-result : tie.Need-mul-result
-mul-result c = search needs
-
-add-result : tie.Need-add-result
-add-result c = search needs
-
 returns : tie.Need-returns
 returns c =
     let h = both-below 16 (c .before .before .hex-digit .result) (c .before .hex-digit2 .result) (c .if1 .taken) in
@@ -37,11 +19,11 @@ pub hex-pair-spec : {M : Type 1} → statement M
 hex-pair-spec =
     tie.close
     (tie.spec
-    hex-digit-requires
-    cast-high
-    hex-digit-requires-2
-    cast-low
-    mul-result
-    add-result
+    (λ c κs. search needs)
+    (λ c. search needs)
+    (λ c κs. search needs)
+    (λ c. search needs)
+    (λ c. search needs)
+    (λ c. search needs)
     returns
     returns-2)

@@ -7,23 +7,11 @@ use borrow.Author.Needs.{needs}
 use Rattle.parser.proofs.memory_lines.decimal.Statement.{statement}
 use Rattle.parser.proofs.memory_lines.decimal.Tie as tie
 
-shared-slice-read-decimal-digit : tie.Need-shared-slice-read-decimal-digit
-shared-slice-read-decimal-digit c = search needs
-
-decimal-digit-requires : tie.Need-decimal-digit-requires
-decimal-digit-requires c κs = search needs
-
 returns : tie.Need-returns
 returns c = decimal-one (c .before .before .before .before .args .line .now) (c .if1 .taken) ∙ c .before .decimal-digit .ensures .1
 
 returns-2 : tie.Need-returns-2
 returns-2 c = decimal-long (c .before .before .before .before .before .args .line .now) (omega arith)
-
-shared-slice-read-decimal-digit-2 : tie.Need-shared-slice-read-decimal-digit-2
-shared-slice-read-decimal-digit-2 c = search needs
-
-decimal-digit-requires-2 : tie.Need-decimal-digit-requires-2
-decimal-digit-requires-2 c κs = search needs
 
 returns-3 : tie.Need-returns-3
 returns-3 c =
@@ -39,12 +27,6 @@ returns-5 c =
     decimal-two (c .before .before .before .before .before .before .before .before .before .before .args .line .now) (c .before .before .before .before .before .if2 .left)
     ∙ rw (c .before .before .before .before .before .before .before .decimal-digit .ensures .0, c .before .before .before .decimal-digit2 .ensures .0, lt-ltb (c .before .before .before .decimal-digit2 .result) 10 (omega arith), c .if5 .taken)
 
-mul-result : tie.Need-mul-result
-mul-result c = search needs
-
-add-result : tie.Need-add-result
-add-result c = search needs
-
 returns-6 : tie.Need-returns-6
 returns-6 c =
     let d = c .before .before .before .before .before .before .before .decimal-digit .result in
@@ -56,15 +38,15 @@ pub decimal-spec : {M : Type 1} → statement M
 decimal-spec =
     tie.close
     (tie.spec
-    shared-slice-read-decimal-digit
-    decimal-digit-requires
+    (λ c. search needs)
+    (λ c κs. search needs)
     returns
     returns-2
-    shared-slice-read-decimal-digit-2
-    decimal-digit-requires-2
+    (λ c. search needs)
+    (λ c κs. search needs)
     returns-3
     returns-4
     returns-5
-    mul-result
-    add-result
+    (λ c. search needs)
+    (λ c. search needs)
     returns-6)

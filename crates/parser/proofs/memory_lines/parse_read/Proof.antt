@@ -3,15 +3,6 @@ use borrow.Author.Needs.{needs}
 use Rattle.parser.proofs.memory_lines.parse_read.Statement.{statement}
 use Rattle.parser.proofs.memory_lines.parse_read.Tie as tie
 
-parse-address-and-number-requires : tie.Need-parse-address-and-number-requires
-parse-address-and-number-requires c κs = search needs
-
-enum-told : tie.Need-enum-told
-enum-told c = search needs
-
-enum-known-both : tie.Need-enum-known-both
-enum-known-both c = search needs
-
 returns : tie.Need-returns
 returns c = rw (c .enum-told .given .1) at (c .before .before .parse-address-and-number .ensures (λ a n. memory (read a n)))
 
@@ -20,4 +11,4 @@ returns-2 c = rw (c .before .both .given .1) at (c .before .before .before .pars
 
 pub parse-read-spec : {M : Type 1} → statement M
 parse-read-spec =
-    tie.close (tie.spec parse-address-and-number-requires enum-told enum-known-both returns returns-2)
+    tie.close (tie.spec (λ c κs. search needs) (λ c. search needs) (λ c. search needs) returns returns-2)

@@ -2,63 +2,33 @@ use native.Mathlib.Omega.{arith}
 use mathlib.Core.Path.{sym, _∙_}
 use lib.ListN.{drop, length-drop}
 use Rattle.calls.specs.Calls.{memory, write}
-use Rattle.parser.specs.Digits.{bytesField}
+use Rattle.hex_digits.specs.Digits.{bytesField}
 use Rattle.parser.proofs.DigitLaws.{below-some, below-none}
 use Rattle.parser.proofs.PlainLaws.{bytesField-plain}
 use Rattle.parser.proofs.FieldLaws.{two-is, two-unparted, two-lacking}
-use Prim.Native.Nat.{_-_, _^_}
+use Prim.Native.Nat.{_^_}
 use Rattle.parser.proofs.ByteLaws.{bytes-long, short-bytes, odd-bytes, whole-bytes}
 use borrow.Author.Needs.{needs}
 use Rattle.parser.proofs.memory_lines.parse_write.Statement.{statement}
 use Rattle.parser.proofs.memory_lines.parse_write.Tie as tie
-
-malformed-requires : tie.Need-malformed-requires
-malformed-requires c κs = search needs
 
 returns : tie.Need-returns
 returns c =
     let l = c .before .before .before .args .line .now in
     (c .malformed .ensures .0 ∙ sym (two-lacking bytesField (λ a bs. memory (write a bs)) bytesField-plain l 8 (short-bytes l (omega arith))), c .malformed .ensures .1)
 
-malformed-requires-2 : tie.Need-malformed-requires-2
-malformed-requires-2 c κs = search needs
-
 returns-2 : tie.Need-returns-2
 returns-2 c =
     let l = c .before .before .before .before .args .line .now in
     (c .malformed2 .ensures .0 ∙ sym (two-lacking bytesField (λ a bs. memory (write a bs)) bytesField-plain l 8 (bytes-long (drop 11 l) (simp length-drop (omega arith)))), c .malformed2 .ensures .1)
-
-sub-count : tie.Need-sub-count
-sub-count c = search needs
-
-mul-even : tie.Need-mul-even
-mul-even c = search needs
-
-add-even : tie.Need-add-even
-add-even c = search needs
-
-malformed-requires-3 : tie.Need-malformed-requires-3
-malformed-requires-3 c κs = search needs
 
 returns-3 : tie.Need-returns-3
 returns-3 c =
     let l = c .before .before .before .before .before .args .line .now in
     (c .malformed3 .ensures .0 ∙ sym (two-lacking bytesField (λ a bs. memory (write a bs)) bytesField-plain l 8 (odd-bytes l (omega arith) (omega arith) (c .before .if3 .taken))), c .malformed3 .ensures .1)
 
-shared-slice-read-comma : tie.Need-shared-slice-read-comma
-shared-slice-read-comma c = search needs
-
-malformed-requires-4 : tie.Need-malformed-requires-4
-malformed-requires-4 c κs = search needs
-
 returns-4 : tie.Need-returns-4
 returns-4 c = (c .malformed4 .ensures .0 ∙ sym (two-unparted bytesField (λ a bs. memory (write a bs)) bytesField-plain (c .before .before .before .before .before .before .before .args .line .now) 8 (c .before .if4 .taken)), c .malformed4 .ensures .1)
-
-hex-address-requires : tie.Need-hex-address-requires
-hex-address-requires c κs = search needs
-
-malformed-requires-5 : tie.Need-malformed-requires-5
-malformed-requires-5 c κs = search needs
 
 returns-5 : tie.Need-returns-5
 returns-5 c = (
@@ -67,15 +37,6 @@ returns-5 c = (
       ∙ rw (c .before .before .hex-address .ensures, below-none (2 ^ 32) (c .before .before .hex-address .result) (omega arith))),
   c .malformed5 .ensures .1,
 )
-
-hex-bytes-requires : tie.Need-hex-bytes-requires
-hex-bytes-requires c κs = search needs
-
-cast-t15 : tie.Need-cast-t15
-cast-t15 c = search needs
-
-malformed-requires-6 : tie.Need-malformed-requires-6
-malformed-requires-6 c κs = search needs
 
 returns-6 : tie.Need-returns-6
 returns-6 c =
@@ -98,23 +59,23 @@ pub parse-write-spec : {M : Type 1} → statement M
 parse-write-spec =
     tie.close
     (tie.spec
-    malformed-requires
+    (λ c κs. search needs)
     returns
-    malformed-requires-2
+    (λ c κs. search needs)
     returns-2
-    sub-count
-    mul-even
-    add-even
-    malformed-requires-3
+    (λ c. search needs)
+    (λ c. search needs)
+    (λ c. search needs)
+    (λ c κs. search needs)
     returns-3
-    shared-slice-read-comma
-    malformed-requires-4
+    (λ c. search needs)
+    (λ c κs. search needs)
     returns-4
-    hex-address-requires
-    malformed-requires-5
+    (λ c κs. search needs)
+    (λ c κs. search needs)
     returns-5
-    hex-bytes-requires
-    cast-t15
-    malformed-requires-6
+    (λ c κs. search needs)
+    (λ c. search needs)
+    (λ c κs. search needs)
     returns-6
     returns-7)

@@ -3,7 +3,6 @@ use mathlib.Core.Path.{sym, _∙_}
 use Rattle.calls.specs.Calls.{readRegister}
 use Rattle.parser.proofs.DigitLaws.{below-some, below-none}
 use Rattle.parser.proofs.FormatLaws.{register-read-is, one-lacks}
-use Prim.Native.Nat.{_-_}
 use borrow.Author.Needs.{needs}
 use Rattle.parser.proofs.register_lines.parse_register_read.Statement.{statement}
 use Rattle.parser.proofs.register_lines.parse_register_read.Tie as tie
@@ -11,21 +10,9 @@ use Rattle.parser.proofs.register_lines.parse_register_read.Tie as tie
 returns : tie.Need-returns
 returns c = sym (one-lacks (c .before .before .args .line .now) readRegister 2 (c .if1 .taken) (omega arith))
 
-shared-slice-read-hex-pair : tie.Need-shared-slice-read-hex-pair
-shared-slice-read-hex-pair c = search needs
-
-shared-slice-read-hex-pair-2 : tie.Need-shared-slice-read-hex-pair-2
-shared-slice-read-hex-pair-2 c = search needs
-
-hex-pair-requires : tie.Need-hex-pair-requires
-hex-pair-requires c κs = search needs
-
 returns-2 : tie.Need-returns-2
 returns-2 c =
     sym (register-read-is (c .before .before .before .before .before .before .args .line .now) readRegister (c .before .before .before .before .if1 .left) (c .before .hex-pair .result) (c .before .hex-pair .ensures) ∙ rw (below-none 256 (c .before .hex-pair .result) (omega arith)))
-
-cast-t8 : tie.Need-cast-t8
-cast-t8 c = search needs
 
 returns-3 : tie.Need-returns-3
 returns-3 c =
@@ -36,9 +23,9 @@ parse-register-read-spec =
     tie.close
     (tie.spec
     returns
-    shared-slice-read-hex-pair
-    shared-slice-read-hex-pair-2
-    hex-pair-requires
+    (λ c. search needs)
+    (λ c. search needs)
+    (λ c κs. search needs)
     returns-2
-    cast-t8
+    (λ c. search needs)
     returns-3)

@@ -2,12 +2,11 @@ use native.Mathlib.Omega.{arith}
 use mathlib.Core.Path.{sym, _∙_}
 use lib.ListN.{drop, length-drop}
 use Rattle.calls.specs.Calls.{writeRegister}
-use Rattle.parser.specs.Digits.{hexField}
+use Rattle.hex_digits.specs.Digits.{hexField}
 use Rattle.parser.proofs.DigitLaws.{below-some, below-none, field-lacks}
 use Rattle.parser.proofs.PlainLaws.{hexField-plain}
 use Rattle.parser.proofs.FieldLaws.{two-unparted, two-lacking}
 use Rattle.parser.proofs.FormatLaws.{register-write-is}
-use Prim.Native.Nat.{_-_}
 use borrow.Author.Needs.{needs}
 use Rattle.parser.proofs.register_lines.parse_register_write.Statement.{statement}
 use Rattle.parser.proofs.register_lines.parse_register_write.Tie as tie
@@ -17,29 +16,8 @@ returns c =
     let l = c .before .before .args .line .now in
     sym (two-lacking (hexField 2) writeRegister (hexField-plain 2) l 2 (field-lacks 2 (drop 5 l) (λ e. let f = simp length-drop at e in c .if1 .taken (omega arith))))
 
-shared-slice-read-comma : tie.Need-shared-slice-read-comma
-shared-slice-read-comma c = search needs
-
 returns-2 : tie.Need-returns-2
 returns-2 c = sym (two-unparted (hexField 2) writeRegister (hexField-plain 2) (c .before .before .before .before .args .line .now) 2 (c .if2 .taken))
-
-shared-slice-read-hex-pair : tie.Need-shared-slice-read-hex-pair
-shared-slice-read-hex-pair c = search needs
-
-shared-slice-read-hex-pair-2 : tie.Need-shared-slice-read-hex-pair-2
-shared-slice-read-hex-pair-2 c = search needs
-
-hex-pair-requires : tie.Need-hex-pair-requires
-hex-pair-requires c κs = search needs
-
-shared-slice-read-hex-pair-3 : tie.Need-shared-slice-read-hex-pair-3
-shared-slice-read-hex-pair-3 c = search needs
-
-shared-slice-read-hex-pair-4 : tie.Need-shared-slice-read-hex-pair-4
-shared-slice-read-hex-pair-4 c = search needs
-
-hex-pair-requires-2 : tie.Need-hex-pair-requires-2
-hex-pair-requires-2 c κs = search needs
 
 returns-3 : tie.Need-returns-3
 returns-3 c =
@@ -51,12 +29,6 @@ returns-4 c =
     sym (register-write-is (c .before .before .before .before .before .before .before .before .before .before .before .before .args .line .now) writeRegister (c .before .before .before .before .before .before .before .before .before .before .if1 .left) (c .before .before .before .before .before .before .before .before .if2 .left) (c .before .before .before .before .before .hex-pair .result) (c .before .before .hex-pair2 .result) (c .before .before .before .before .before .hex-pair .ensures) (c .before .before .hex-pair2 .ensures)
     ∙ rw (below-some 256 (c .before .before .before .before .before .hex-pair .result) (omega arith), below-none 256 (c .before .before .hex-pair2 .result) (omega arith)))
 
-cast-t11 : tie.Need-cast-t11
-cast-t11 c = search needs
-
-cast-t8 : tie.Need-cast-t8
-cast-t8 c = search needs
-
 returns-5 : tie.Need-returns-5
 returns-5 c =
     sym (register-write-is (c .before .before .before .before .before .before .before .before .before .before .before .before .args .line .now) writeRegister (c .before .before .before .before .before .before .before .before .before .before .if1 .left) (c .before .before .before .before .before .before .before .before .if2 .left) (c .before .before .before .before .before .hex-pair .result) (c .before .before .hex-pair2 .result) (c .before .before .before .before .before .hex-pair .ensures) (c .before .before .hex-pair2 .ensures)
@@ -67,16 +39,16 @@ parse-register-write-spec =
     tie.close
     (tie.spec
     returns
-    shared-slice-read-comma
+    (λ c. search needs)
     returns-2
-    shared-slice-read-hex-pair
-    shared-slice-read-hex-pair-2
-    hex-pair-requires
-    shared-slice-read-hex-pair-3
-    shared-slice-read-hex-pair-4
-    hex-pair-requires-2
+    (λ c. search needs)
+    (λ c. search needs)
+    (λ c κs. search needs)
+    (λ c. search needs)
+    (λ c. search needs)
+    (λ c κs. search needs)
     returns-3
     returns-4
-    cast-t11
-    cast-t8
+    (λ c. search needs)
+    (λ c. search needs)
     returns-5)

@@ -4,12 +4,6 @@ use borrow.Author.Needs.{needs}
 use Rattle.print.proofs.digits.character.Statement.{statement}
 use Rattle.print.proofs.digits.character.Tie as tie
 
-add-result : tie.Need-add-result
-add-result c = search needs
-
-add-result-2 : tie.Need-add-result-2
-add-result-2 c = search needs
-
 returns : tie.Need-returns
 unfolding hexCharacter
 returns c = rw (lt-ltb _ _ (c .if1 .taken))
@@ -19,4 +13,4 @@ unfolding hexCharacter
 returns-2 c = rw (le-ltb _ _ (c .if1 .left))
 
 pub character-spec : {M : Type 1} → statement M
-character-spec = tie.close (tie.spec add-result add-result-2 returns returns-2)
+character-spec = tie.close (tie.spec (λ c. search needs) (λ c. search needs) returns returns-2)

@@ -6,9 +6,6 @@ use borrow.Author.Needs.{needs}
 use Rattle.print.proofs.text.accepted.Statement.{statement}
 use Rattle.print.proofs.text.accepted.Tie as tie
 
-slice-write-out : tie.Need-slice-write-out
-slice-write-out c = search needs
-
 slice-write-out-2 : tie.Need-slice-write-out-2
 slice-write-out-2 c = simp length-set (omega arith)
 
@@ -18,9 +15,6 @@ slice-write-out-3 c = simp length-set (omega arith)
 slice-write-out-4 : tie.Need-slice-write-out-4
 slice-write-out-4 c = simp length-set (omega arith)
 
-same-length : tie.Need-same-length
-same-length c = search needs
-
 returns : tie.Need-returns
 returns c = start-sets (c .args .letter ∷ 0x2C ∷ 0x30 ∷ 0x0A ∷ []) (c .args .out .now) (omega arith)
 
@@ -28,9 +22,9 @@ pub accepted-spec : {M : Type 1} → statement M
 accepted-spec =
     tie.close
     (tie.spec
-    slice-write-out
+    (λ c. search needs)
     slice-write-out-2
     slice-write-out-3
     slice-write-out-4
-    same-length
+    (λ c. search needs)
     returns)

@@ -17,17 +17,11 @@ use Rattle.print.proofs.text.kinds.Tie as tie
 abbrev start : ℕ → List ℕ
 start l = l ∷ 0x2C ∷ 0x30 ∷ []
 
-slice-write-out : tie.Need-slice-write-out
-slice-write-out c = search needs
-
 slice-write-out-2 : tie.Need-slice-write-out-2
 slice-write-out-2 c = simp length-set (omega arith)
 
 slice-write-out-3 : tie.Need-slice-write-out-3
 slice-write-out-3 c = simp length-set (omega arith)
-
-write-kinds-requires : tie.Need-write-kinds-requires
-write-kinds-requires c κs = search needs
 
 slice-write-out-4 : tie.Need-slice-write-out-4
 slice-write-out-4 c =
@@ -36,9 +30,6 @@ slice-write-out-4 c =
     let same : length (k .last .1 .1 .0) ≡ length (a .out .now) = c .before .out .given ∙ length-sets (a .out .now) 0 (start (a .letter)) in
     let few = k .ensures .2 in
     omega arith
-
-add-result : tie.Need-add-result
-add-result c = search needs
 
 same-length : tie.Need-same-length
 same-length c =
@@ -57,11 +48,11 @@ pub kinds-spec : {M : Type 1} → statement M
 kinds-spec =
     tie.close
     (tie.spec
-    slice-write-out
+    (λ c. search needs)
     slice-write-out-2
     slice-write-out-3
-    write-kinds-requires
+    (λ c κs. search needs)
     slice-write-out-4
-    add-result
+    (λ c. search needs)
     same-length
     returns)

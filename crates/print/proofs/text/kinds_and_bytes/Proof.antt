@@ -17,17 +17,11 @@ use Rattle.print.proofs.text.kinds_and_bytes.Tie as tie
 abbrev start : List ℕ
 start = 0x72 ∷ 0x2C ∷ 0x30 ∷ []
 
-slice-write-out : tie.Need-slice-write-out
-slice-write-out c = search needs
-
 slice-write-out-2 : tie.Need-slice-write-out-2
 slice-write-out-2 c = simp length-set (omega arith)
 
 slice-write-out-3 : tie.Need-slice-write-out-3
 slice-write-out-3 c = simp length-set (omega arith)
-
-write-kinds-requires : tie.Need-write-kinds-requires
-write-kinds-requires c κs = search needs
 
 slice-write-out-4 : tie.Need-slice-write-out-4
 slice-write-out-4 c =
@@ -37,9 +31,6 @@ slice-write-out-4 c =
     let few = k .ensures .2 in
     omega arith
 
-add-write-pairs : tie.Need-add-write-pairs
-add-write-pairs c = search needs
-
 write-pairs-requires : tie.Need-write-pairs-requires
 write-pairs-requires c κs =
     let out = c .before .before .before .before .before .before .before .args .out .now in
@@ -47,15 +38,6 @@ write-pairs-requires c κs =
     let same : length (k .last .1 .1 .0) ≡ length out = c .before .before .out .given ∙ length-sets out 0 start in
     let few = k .ensures .2 in
     simp length-set (omega arith)
-
-add-end : tie.Need-add-end
-add-end c = search needs
-
-mul-end : tie.Need-mul-end
-mul-end c = search needs
-
-add-end-2 : tie.Need-add-end-2
-add-end-2 c = search needs
 
 slice-write-out-5 : tie.Need-slice-write-out-5
 slice-write-out-5 c =
@@ -65,9 +47,6 @@ slice-write-out-5 c =
     let same : length (p .last .1 .0) ≡ length (a .out .now) = c .before .out2 .given ∙ length-set (k .last .1 .1 .0) (k .result) 0x2C ∙ c .before .before .before .before .before .out .given ∙ length-sets (a .out .now) 0 start in
     let few = k .ensures .2 in
     omega arith
-
-add-result : tie.Need-add-result
-add-result c = search needs
 
 same-length : tie.Need-same-length
 same-length c =
@@ -98,17 +77,17 @@ pub kinds-and-bytes-spec : {M : Type 1} → statement M
 kinds-and-bytes-spec =
     tie.close
     (tie.spec
-    slice-write-out
+    (λ c. search needs)
     slice-write-out-2
     slice-write-out-3
-    write-kinds-requires
+    (λ c κs. search needs)
     slice-write-out-4
-    add-write-pairs
+    (λ c. search needs)
     write-pairs-requires
-    add-end
-    mul-end
-    add-end-2
+    (λ c. search needs)
+    (λ c. search needs)
+    (λ c. search needs)
     slice-write-out-5
-    add-result
+    (λ c. search needs)
     same-length
     returns)

@@ -9,14 +9,8 @@ use borrow.Author.Needs.{needs}
 use Rattle.print.proofs.text.refused.Statement.{statement}
 use Rattle.print.proofs.text.refused.Tie as tie
 
-slice-write-out : tie.Need-slice-write-out
-slice-write-out c = search needs
-
 slice-write-out-2 : tie.Need-slice-write-out-2
 slice-write-out-2 c = simp length-set (omega arith)
-
-add-out : tie.Need-add-out
-add-out c = search needs
 
 slice-write-out-3 : tie.Need-slice-write-out-3
 slice-write-out-3 c = simp length-set (omega arith)
@@ -24,31 +18,19 @@ slice-write-out-3 c = simp length-set (omega arith)
 slice-write-out-4 : tie.Need-slice-write-out-4
 slice-write-out-4 c = simp length-set (omega arith)
 
-same-length : tie.Need-same-length
-same-length c = search needs
-
 returns : tie.Need-returns
 returns c =
     let a = c .before .args in
     start-sets (a .letter ∷ 0x2C ∷ (0x30 + a .number) ∷ 0x0A ∷ []) (a .out .now) (omega arith) ∙ ap (λ (t : List ℕ). atStart t (a .out .now)) (refused-one (a .letter) (a .number) (c .if1 .taken))
 
-add-out-2 : tie.Need-add-out-2
-add-out-2 c = search needs
-
 slice-write-out-5 : tie.Need-slice-write-out-5
 slice-write-out-5 c = simp length-set (omega arith)
-
-add-out-3 : tie.Need-add-out-3
-add-out-3 c = search needs
 
 slice-write-out-6 : tie.Need-slice-write-out-6
 slice-write-out-6 c = simp length-set (omega arith)
 
 slice-write-out-7 : tie.Need-slice-write-out-7
 slice-write-out-7 c = simp length-set (omega arith)
-
-same-length-2 : tie.Need-same-length-2
-same-length-2 c = search needs
 
 returns-2 : tie.Need-returns-2
 returns-2 c =
@@ -59,17 +41,17 @@ pub refused-spec : {M : Type 1} → statement M
 refused-spec =
     tie.close
     (tie.spec
-    slice-write-out
+    (λ c. search needs)
     slice-write-out-2
-    add-out
+    (λ c. search needs)
     slice-write-out-3
     slice-write-out-4
-    same-length
+    (λ c. search needs)
     returns
-    add-out-2
+    (λ c. search needs)
     slice-write-out-5
-    add-out-3
+    (λ c. search needs)
     slice-write-out-6
     slice-write-out-7
-    same-length-2
+    (λ c. search needs)
     returns-2)

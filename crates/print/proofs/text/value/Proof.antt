@@ -6,9 +6,6 @@ use borrow.Author.Needs.{needs}
 use Rattle.print.proofs.text.value.Statement.{statement}
 use Rattle.print.proofs.text.value.Tie as tie
 
-slice-write-out : tie.Need-slice-write-out
-slice-write-out c = search needs
-
 slice-write-out-2 : tie.Need-slice-write-out-2
 slice-write-out-2 c = simp length-set (omega arith)
 
@@ -18,23 +15,14 @@ slice-write-out-3 c = simp length-set (omega arith)
 slice-write-out-4 : tie.Need-slice-write-out-4
 slice-write-out-4 c = simp length-set (omega arith)
 
-high-digit-requires : tie.Need-high-digit-requires
-high-digit-requires c κs = search needs
-
 slice-write-out-5 : tie.Need-slice-write-out-5
 slice-write-out-5 c = simp length-set (omega arith)
-
-low-digit-requires : tie.Need-low-digit-requires
-low-digit-requires c κs = search needs
 
 slice-write-out-6 : tie.Need-slice-write-out-6
 slice-write-out-6 c = simp length-set (omega arith)
 
 slice-write-out-7 : tie.Need-slice-write-out-7
 slice-write-out-7 c = simp length-set (omega arith)
-
-same-length : tie.Need-same-length
-same-length c = search needs
 
 returns : tie.Need-returns
 returns c =
@@ -45,14 +33,14 @@ pub value-spec : {M : Type 1} → statement M
 value-spec =
     tie.close
     (tie.spec
-    slice-write-out
+    (λ c. search needs)
     slice-write-out-2
     slice-write-out-3
     slice-write-out-4
-    high-digit-requires
+    (λ c κs. search needs)
     slice-write-out-5
-    low-digit-requires
+    (λ c κs. search needs)
     slice-write-out-6
     slice-write-out-7
-    same-length
+    (λ c. search needs)
     returns)

@@ -1,0 +1,5 @@
+pub mod SizeLaws
+pub mod EnableLaws
+pub mod PairLaws
+pub mod PassLaws
+pub mod SelectionLaws

@@ -1,0 +1,355 @@
+-- One pass over the enabled banks: what holds of the banks that it has passed, and what it finds in the end.
+use mathlib.Core.Path.{_≡_, refl, sym, ap, subst, _∙_}
+use mathlib.Core.Bool.{Bool, true, false, not, cond, _&&_, _||_}
+use mathlib.Core.Logic.{_⊎_, inl, inr, ⊎-elim}
+use mathlib.Core.List.{List, [], _∷_}
+use mathlib.Core.Option.{none, some}
+use Prim.Native.Nat.{ℕ, zero, suc, _+_, _-_, _*_, _%_, _^_, _≤_, _<_}
+use native.Mathlib.Omega.{arith}
+use lib.Bits.{bitAnd, and-le-l, and-le-r}
+use lib.Count.{trailingZeros}
+use lib.Dec.{ltb, leb}
+use lib.ListN.{getD}
+use borrow.Author.Tests.{ltb-true, ltb-false, le-ltb, lt-leb}
+use Rattle.basics.specs.Range.{first}
+use Rattle.basics.proofs.Bools.{and-not, and-false, or-left}
+use Rattle.basics.proofs.RangeLaws.{byCases, contra, first-at, first-before, sum-zero, sum-more}
+use Rattle.basics.proofs.Zeros.{isSet}
+use Rattle.refusals.specs.Paper.{refused, given, _gives_}
+use Rattle.banks.specs.Setup.{Setup, bank}
+use Rattle.banks.specs.Judge.{lowest, isEnabled, inverted, tooLong, faulty, meets, meetsLower, lowestMeeting, judged, ready, notReady}
+use Rattle.banks.specs.Map.{mostCells, holds, bankAt, cells, share, cellsBelow}
+use Rattle.banks.specs.CodeFields.{TenBits, bankIn, enabledIn, setupIn}
+use Rattle.address_map.specs.CodeSelection.{megabyteBits, bitsUnlessFaulty, selection}
+use Rattle.banks.proofs.FieldLaws.{cells-most}
+use Rattle.banks.proofs.TakenLaws.{bank-in, bounded-in}
+use Rattle.banks.proofs.AcceptedLaws.{accepted}
+use Rattle.banks.proofs.CellLaws.{bank-selected, cells-more}
+use Rattle.address_map.proofs.SizeLaws.{few-bits, cells-bits}
+use Rattle.address_map.proofs.EnableLaws.{Rest, rest-whole, rest-none, next-below, next-from, next-on, next-off, rest-less}
+
+-- ---- a disabled bank is not faulty, holds no megabyte, meets no bank and adds no cells
+module _ (s : Setup) (k : ℕ) (e : bank s k .enabled ≡ false) where
+  off-faulty : faulty (bank s k) ≡ false
+  unfolding faulty
+  off-faulty = rw e
+
+  off-holds : (mb : ℕ) → holds mb (bank s k) ≡ false
+  unfolding holds
+  off-holds mb = rw e
+
+  off-meets : meetsLower s k ≡ false
+  unfolding meetsLower
+  off-meets = rw e
+
+  off-share : share (bank s k) ≡ 0
+  unfolding share
+  off-share = rw e
+
+-- a sound bank does not start above its end
+forward : (s : Setup) (n : ℕ) → bank s n .enabled ≡ true → faulty (bank s n) ≡ false → bank s n .start ≤ bank s n .last
+unfolding faulty inverted
+forward s n on sane =
+    let c = bank s n in
+    ltb-false (c .last) (c .start) (or-left (inverted c) (tooLong c) (and-not (c .enabled) (inverted c || tooLong c) sane on))
+
+-- a statement about the numbers below m, from one about those below n and one about the others
+below : {P : ℕ → Type 0} (n m : ℕ) → ((k : ℕ) → k < n → P k) → ((k : ℕ) → n ≤ k → k < m → P k) → (k : ℕ) → k < m → P k
+below n m low high k l = byCases (ltb k n) (λ t. low k (ltb-true k n t)) (λ t. high k (ltb-false k n t) l)
+
+cells-skip : (s : Setup) (n d : ℕ) → ((k : ℕ) → n ≤ k → k < n + d → bank s k .enabled ≡ false) → cellsBelow s (n + d) ≡ cellsBelow s n
+unfolding cellsBelow
+cells-skip s n zero h = let e : n + 0 ≡ n = omega arith in rw e
+cells-skip s n (suc d) h =
+    let e : n + suc d ≡ (n + d) + 1 = omega arith in
+    let z = off-share s (n + d) (h (n + d) (omega arith) (omega arith)) in
+    let g = cells-skip s n d (λ k l m. h k l (omega arith)) in
+    rw (e, sum-more, z) (omega (arith, g))
+
+-- ---- the state of the pass
+-- b is 8, and no bank below n holds the megabyte, or b holds it, k is the number of its first cell, and z its bits
+abbrev Found : Setup → ℕ → ℕ → ℕ → ℕ → ℕ → Type 0
+Found s mb n b k z =
+    ((b ≡ 8) × ((j : ℕ) → j < n → holds mb (bank s j) ≡ false))
+    ⊎ ((b < 8) × (holds mb (bank s b) ≡ true) × (k ≡ cellsBelow s b) × (z ≡ megabyteBits (bank s b)))
+
+-- the banks below n are passed: none is faulty, `base` cells are theirs, and if the top bit of `ascent` is set, none of them meets another,
+-- and none ends above `end`
+pub record Passed (s : Setup) (mb n b k z base end ascent : ℕ) : Type 0 where
+  pub most : n ≤ 8
+  pub sound : (j : ℕ) → j < n → faulty (bank s j) ≡ false
+  pub sum : base ≡ cellsBelow s n
+  pub small : base ≤ n * mostCells
+  pub found : Found s mb n b k z
+  pub apart : 2 ^ 31 ≤ ascent → (j : ℕ) → j < n → meetsLower s j ≡ false
+  pub under : 2 ^ 31 ≤ ascent → (j : ℕ) → j < n → bank s j .enabled ≡ true → (bank s j .last ≤ end) × (end < 1024)
+
+module _ (s : Setup) (mb : ℕ) where
+  passed-start : (end ascent : ℕ) → Passed s mb 0 8 0 0 0 end ascent
+  unfolding cellsBelow
+  passed-start end ascent =
+      record {
+        most = omega arith;
+        sound = λ j l. absurd (omega arith);
+        sum = sym (sum-zero _);
+        small = omega arith;
+        found = inl (refl, λ j l. absurd (omega arith));
+        apart = λ _ j l. absurd (omega arith);
+        under = λ _ j l. absurd (omega arith);
+      }
+
+  module _ (n b k z base end ascent : ℕ) (p : Passed s mb n b k z base end ascent) where
+    -- passing disabled banks changes nothing
+    passed-skip : (m : ℕ) → n ≤ m → m ≤ 8 → ((j : ℕ) → n ≤ j → j < m → bank s j .enabled ≡ false) → Passed s mb m b k z base end ascent
+    passed-skip m l u off =
+        let e : n + (m - n) ≡ m = omega arith in
+        record {
+          most = u;
+          sound = below n m (p .sound) (λ j x y. off-faulty s j (off j x y));
+          sum = p .sum ∙ sym (ap (cellsBelow s) (sym e) ∙ cells-skip s n (m - n) (λ j x y. off j x (omega arith)));
+          small = omega (arith, p .small);
+          found =
+              ⊎-elim (λ w. inl (w .0, below n m (w .1) (λ j x y. off-holds s j (off j x y) mb)))
+              (λ w. inr w) (p .found);
+          apart = λ t. below n m (p .apart t) (λ j x y. off-meets s j (off j x y));
+          under = λ t. below n m (p .under t) (λ j x y q. contra q (off j x y));
+        }
+
+    -- the enabled bank n is passed; `gap` is the difference of `end` and its start, modulo 2 ^ 32
+    module _
+        (gap : ℕ) (top : gap < 2 ^ 32) (l : n < 8) (on : bank s n .enabled ≡ true) (sane : faulty (bank s n) ≡ false) (size : cells (bank s n) ≤ mostCells)
+        (bits : bank s n .last < 1024) (wraps : (gap + bank s n .start) % 2 ^ 32 ≡ end) where
+      abbrev here : Bool
+      here = leb (bank s n .start) mb && leb mb (bank s n .last)
+
+      -- a statement about the bank passed, and one about those before it
+      one-more : {P : ℕ → Type 0} → ((j : ℕ) → j < n → P j) → P n → (j : ℕ) → j < n + 1 → P j
+      one-more {P} low x = below {P = P} n (n + 1) low (λ j y z. let e : n ≡ j = omega arith in subst P e x)
+
+      holds-here : holds mb (bank s n) ≡ here
+      unfolding holds
+      holds-here = rw on
+
+      found-more : Found s mb (n + 1) (cond here n b) (cond here base k) (cond here (megabyteBits (bank s n)) z)
+      found-more =
+          byCases here (λ t. rw t (inr (l, holds-here ∙ t, p .sum, refl)))
+          (λ t. rw t (⊎-elim (λ w. inl (w .0, one-more (w .1) (holds-here ∙ t))) (λ w. inr w) (p .found)))
+
+      -- the bank starts above the ends of all before it
+      above : 2 ^ 31 ≤ bitAnd ascent gap → (j : ℕ) → j < n → bank s j .enabled ≡ true → bank s j .last < bank s n .start
+      above t j q u =
+          let v = p .under (omega (arith, and-le-l ascent gap)) j q u in
+          omega (arith, and-le-r ascent gap, v .0, v .1, bits, top, forward s n on sane)
+
+      -- so it meets none of them
+      apart-here : 2 ^ 31 ≤ bitAnd ascent gap → meetsLower s n ≡ false
+      unfolding meetsLower meets
+      apart-here t =
+          let c = bank s n in
+          let none : (j : ℕ) → 0 ≤ j → j < n → meets c (bank s j) ≡ false =
+          (λ j _ q.
+          byCases (bank s j .enabled)
+          (λ u. rw (u, lt-leb (c .start) (bank s j .last) (above t j q u)) (and-false (leb (bank s j .start) (c .last))))
+          (λ u. rw u)) in
+          let e = first-at (λ j. meets c (bank s j)) n 0 n (omega arith) (omega arith) (λ z. absurd (omega arith)) none in
+          rw (on, e, le-ltb n n (omega arith))
+
+      passed-more :
+          Passed s mb (n + 1) (cond here n b) (cond here base k) (cond here (megabyteBits (bank s n)) z)
+          (base + cells (bank s n)) (bank s n .last) (bitAnd ascent gap)
+      passed-more =
+          record {
+            most = omega arith;
+            sound = one-more (p .sound) sane;
+            sum = ap (λ (x : ℕ). x + cells (bank s n)) (p .sum) ∙ sym (cells-more s n on);
+            small = omega (arith, p .small, size);
+            found = found-more;
+            apart = λ t. one-more (p .apart (omega (arith, and-le-l ascent gap))) (apart-here t);
+            under = λ t. one-more (λ j x q. (omega (arith, above t j x q, forward s n on sane), bits)) (λ q. (omega arith, bits));
+          }
+
+-- ---- the pass over the fields
+pub enabled-at : (f : List ℕ) (k : ℕ) → k < 8 → bank (setupIn f) k .enabled ≡ isSet (getD f 16 0) k
+unfolding bankIn enabledIn
+enabled-at f k l =
+    rw (bank-in f k l) (byCases (isSet (getD f 16 0) k) (λ t. rw t) (λ t. rw t))
+
+-- the banks below some n are passed, and the bits of the others are left
+pub record Going (f : List ℕ) (mb rest b k z base end ascent : ℕ) : Type 0 where
+  pub n : ℕ
+  pub left : Rest (getD f 16 0) rest n
+  pub passed : Passed (setupIn f) mb n b k z base end ascent
+
+pub going-start : (f : List ℕ) (mb end ascent : ℕ) → Going f mb (getD f 16 0 % 256) 8 0 0 0 end ascent
+going-start f mb end ascent =
+    record { n = 0; left = rest-whole (getD f 16 0); passed = passed-start (setupIn f) mb end ascent }
+
+-- some bank is enabled exactly if some bit is set
+pub some-enabled : (f : List ℕ) → ((getD f 16 0 % 256 ≡ 0) → ⊥) → lowest isEnabled (setupIn f) < 8
+unfolding lowest
+some-enabled f z =
+    let e = getD f 16 0 in
+    let w = rest-whole e in
+    let b = next-below e (e % 256) 0 w z in
+    let m = first (λ k. isEnabled (bank (setupIn f) k)) 8 0 in
+    byCases (ltb m 8) (λ t. ltb-true m 8 t)
+    (λ t.
+    contra (enabled-at f (trailingZeros 32 (e % 256)) b ∙ next-on e (e % 256) 0 w z)
+    (first-before (λ k. isEnabled (bank (setupIn f) k)) 8 0 (trailingZeros 32 (e % 256)) (omega arith) (omega (arith, b, ltb-false m 8 t))))
+
+pub none-enabled : (f : List ℕ) → getD f 16 0 % 256 ≡ 0 → 8 ≤ lowest isEnabled (setupIn f)
+unfolding lowest
+none-enabled f z =
+    let e = getD f 16 0 in
+    let q = first-at (λ k. isEnabled (bank (setupIn f) k)) 8 0 8 (omega arith) (omega arith) (λ w. absurd (omega arith))
+    (λ j l k. enabled-at f j k ∙ rest-none e (e % 256) 0 (rest-whole e) z j l k) in
+    omega (arith, q)
+
+module _ {f : List ℕ} {mb rest b k z base end ascent : ℕ} (g : Going f mb rest b k z base end ascent) where
+  -- no bits are left
+  pub going-end : rest ≡ 0 → Passed (setupIn f) mb 8 b k z base end ascent
+  going-end e =
+      passed-skip (setupIn f) mb (g .n) b k z base end ascent (g .passed) 8 (g .passed .most) (omega arith)
+      (λ j x y. enabled-at f j y ∙ rest-none (getD f 16 0) rest (g .n) (g .left) e j x y)
+
+  -- the lowest bit left is that of bank m
+  module _ (some : (rest ≡ 0) → ⊥) where
+    abbrev m : ℕ
+    m = trailingZeros 32 rest
+
+    pub below-eight : m < 8
+    below-eight = next-below (getD f 16 0) rest (g .n) (g .left) some
+
+    passed-here : Passed (setupIn f) mb m b k z base end ascent
+    passed-here =
+        passed-skip (setupIn f) mb (g .n) b k z base end ascent (g .passed) m (next-from (getD f 16 0) rest (g .n) (g .left) some) (omega (arith, below-eight))
+        (λ j x y. enabled-at f j (omega (arith, below-eight)) ∙ next-off (getD f 16 0) rest (g .n) (g .left) some j x y)
+
+    pub small-here : base ≤ 7 * mostCells
+    small-here = omega (arith, passed-here .small, below-eight)
+
+    enabled-here : bank (setupIn f) m .enabled ≡ true
+    enabled-here = enabled-at f m below-eight ∙ next-on (getD f 16 0) rest (g .n) (g .left) some
+
+    bank-here : bank (setupIn f) m ≡ enabledIn f m
+    unfolding bankIn
+    bank-here = rw (bank-in f m below-eight, next-on (getD f 16 0) rest (g .n) (g .left) some)
+
+    starts-here : bank (setupIn f) m .start ≡ getD f m 0
+    unfolding enabledIn
+    starts-here = rw bank-here
+
+    ends-here : bank (setupIn f) m .last ≡ getD f (8 + m) 0
+    unfolding enabledIn
+    ends-here = rw bank-here
+
+    module _ (t : TenBits f) {bits : ℕ} (e : bits ≡ bitsUnlessFaulty (enabledIn f m)) where
+      -- 32 bits stand for a faulty bank
+      pub faulty-here : bits ≡ 32 → lowest faulty (setupIn f) < 8
+      unfolding bitsUnlessFaulty lowest
+      faulty-here w =
+          byCases (faulty (bank (setupIn f) m))
+          (λ v.
+          let i = first (λ j. faulty (bank (setupIn f) j)) 8 0 in
+          byCases (ltb i 8) (λ u. ltb-true i 8 u)
+          (λ u. contra v (first-before (λ j. faulty (bank (setupIn f) j)) 8 0 m (omega arith) (omega (arith, below-eight, ltb-false i 8 u)))))
+          (λ v.
+          let q : faulty (enabledIn f m) ≡ false = rw bank-here at v in
+          let r : bits ≡ megabyteBits (enabledIn f m) = rw q at e in
+          let n : megabyteBits (enabledIn f m) ≤ 7 = rw bank-here at (few-bits (bank (setupIn f) m) (bounded-in f t m)) in
+          absurd (omega arith))
+
+      module _ (w : (bits ≡ 32) → ⊥) where
+        sane-here : (faulty (bank (setupIn f) m) ≡ false) × (bits ≡ megabyteBits (bank (setupIn f) m))
+        unfolding bitsUnlessFaulty
+        sane-here =
+            byCases (faulty (enabledIn f m)) (λ v. absurd (w (rw v at e)))
+            (λ v. let r : bits ≡ megabyteBits (enabledIn f m) = rw v at e in rw bank-here (v, r))
+
+        pub bits-most : bits ≤ 7
+        bits-most = omega (arith, sane-here .1, few-bits (bank (setupIn f) m) (bounded-in f t m))
+
+        cells-here : cells (bank (setupIn f) m) ≡ 2 ^ (17 + bits)
+        cells-here = cells-bits (bank (setupIn f) m) (bounded-in f t m) ∙ ap (λ (x : ℕ). 2 ^ (17 + x)) (sym (sane-here .1))
+
+        pub forward-here : getD f m 0 ≤ getD f (8 + m) 0
+        forward-here =
+            rw (starts-here, ends-here) at (forward (setupIn f) m enabled-here (sane-here .0))
+
+        pub going-next : (gap : ℕ) → gap < 2 ^ 32 → (gap + getD f m 0) % 2 ^ 32 ≡ end
+            → Going f mb (bitAnd rest (rest - 1))
+            (cond (leb (getD f m 0) mb && leb mb (getD f (8 + m) 0)) m b)
+            (cond (leb (getD f m 0) mb && leb mb (getD f (8 + m) 0)) base k)
+            (cond (leb (getD f m 0) mb && leb mb (getD f (8 + m) 0)) bits z)
+            (base + 2 ^ (17 + bits)) (getD f (8 + m) 0) (bitAnd ascent gap)
+        going-next gap u q =
+            let B = bounded-in f t m in
+            let more =
+            passed-more (setupIn f) mb m b k z base end ascent passed-here gap u below-eight enabled-here (sane-here .0) (cells-most (bank (setupIn f) m) B) (B .last-most) (rw starts-here q) in
+            record {
+              n = m + 1;
+              left = rest-less (getD f 16 0) rest (g .n) (g .left) some;
+              passed = rw (starts-here, ends-here, cells-here, ← sane-here .1) at more;
+            }
+
+-- ---- the end of the pass
+judged-none : (s : Setup) → lowest isEnabled s < 8 → 8 ≤ lowest faulty s → 8 ≤ lowestMeeting s → judged s ≡ none
+unfolding judged
+judged-none s e f m = simp (lt-leb 8 (lowest isEnabled s) e, le-ltb (lowest faulty s) 8 f, le-ltb (lowestMeeting s) 8 m)
+
+pub ready-from : (s : Setup) → s .on ≡ true → lowest isEnabled s < 8 → 8 ≤ lowest faulty s → 8 ≤ lowestMeeting s → ready s ≡ true
+unfolding ready
+ready-from s on e f m = rw (judged-none s e f m, on)
+
+unready : (s : Setup) → ((ready s ≡ true) → ⊥) → notReady s ≡ some (5 ∷ [])
+unfolding notReady
+unready s h = byCases (ready s) (λ t. absurd (h t)) (λ t. rw t)
+
+pub unready-off : (s : Setup) → s .on ≡ false → notReady s ≡ some (5 ∷ [])
+unfolding notReady ready
+unready-off s e = rw e
+
+pub unready-none : (s : Setup) → 8 ≤ lowest isEnabled s → notReady s ≡ some (5 ∷ [])
+unready-none s e = unready s (λ t. absurd (omega (arith, accepted s t .some-enabled)))
+
+pub unready-faulty : (s : Setup) → lowest faulty s < 8 → notReady s ≡ some (5 ∷ [])
+unready-faulty s e = unready s (λ t. absurd (omega (arith, accepted s t .none-faulty)))
+
+pub unready-meeting : (s : Setup) → lowestMeeting s < 8 → notReady s ≡ some (5 ∷ [])
+unready-meeting s e = unready s (λ t. absurd (omega (arith, accepted s t .none-meeting)))
+
+module _ {s : Setup} {mb b k z base end ascent : ℕ} (p : Passed s mb 8 b k z base end ascent) where
+  -- no bank fails the test
+  all-pass : (q : ℕ → Bool) → ((j : ℕ) → j < 8 → q j ≡ false) → first q 8 0 ≡ 8
+  all-pass q h = first-at q 8 0 8 (omega arith) (omega arith) (λ w. absurd (omega arith)) (λ j _ m. h j m)
+
+  pub none-faulty : 8 ≤ lowest faulty s
+  unfolding lowest
+  none-faulty = omega (arith, all-pass (λ j. faulty (bank s j)) (p .sound))
+
+  pub none-meeting : 2 ^ 31 ≤ ascent → 8 ≤ lowestMeeting s
+  unfolding lowestMeeting
+  none-meeting t = omega (arith, all-pass (meetsLower s) (p .apart t))
+
+  no-bank : ((j : ℕ) → j < 8 → holds mb (bank s j) ≡ false) → bankAt s mb ≡ 8
+  unfolding bankAt lowest
+  no-bank h = all-pass (λ j. holds mb (bank s j)) h
+
+  -- what was chosen is the megabyte's bank
+  pub selected-is : ready s ≡ true → selection s mb ≡ cond (ltb b 8) (some (b, k, z)) none
+  unfolding selection
+  selected-is h =
+      ⊎-elim
+      (λ w. let e : bankAt s mb ≡ 8 = no-bank (w .1) in rw (e, w .0))
+      (λ w. let e : bankAt s mb ≡ b = bank-selected s h mb b (w .0) (w .1) in rw (e, w .2, w .3))
+      (p .found)
+
+  pub chosen-most : b ≤ 8
+  chosen-most = ⊎-elim (λ w. omega (arith, w .0)) (λ w. omega (arith, w .0)) (p .found)
+
+  pub selection-given : ready s ≡ true → given (cond (ltb b 8) (some (b, k, z)) none) ≡ (notReady s gives selection s mb)
+  unfolding notReady
+  selection-given h = rw (h, selected-is h)
+
+pub selection-declined : (s : Setup) (mb : ℕ) → notReady s ≡ some (5 ∷ []) → refused (5 ∷ []) ≡ (notReady s gives selection s mb)
+selection-declined s mb e = rw e

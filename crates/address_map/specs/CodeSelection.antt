@@ -1,0 +1,35 @@
+-- What the pass finds, for the contracts of its functions.
+use Prim.Native.Nat.{ℕ, _+_, _-_, _*_, _≤_}
+use mathlib.Core.Path.{_≡_}
+use mathlib.Core.Bool.{cond}
+use mathlib.Core.Option.{Option, none, some}
+use lib.Dec.{ltb, leb}
+use Rattle.refusals.specs.Paper.{paper, Outcome, refused, given}
+use Rattle.refusals.specs.declared.Refusal.the-variants.{NotReady}
+use Rattle.banks.specs.declared.Bank.{Bank}
+use Rattle.banks.specs.Setup.{fewestRows, Setup, fits, columnBits, bank}
+use Rattle.banks.specs.Judge.{faulty}
+use Rattle.banks.specs.Map.{bankAt, cellsBelow}
+use Rattle.address_map.specs.declared.pass.Selection.{Selection}
+
+-- what k says about a span of span + 1 megabytes with this row code: whether the span fits, and if it does, that the bank has 2 ^ (17 + k) cells
+pub record SizeBits (span code k : ℕ) : Type 0 where
+  pub room : leb k (2 * code + 1) ≡ fits (fewestRows + code) (span + 1) (fewestRows + code)
+  pub bits : k ≤ 2 * code + 1 → 17 + k ≡ fewestRows + code + columnBits (fewestRows + code) (span + 1)
+
+-- how many bits number the megabytes of a bank's cells
+unfoldable pub megabyteBits : Bank → ℕ
+megabyteBits b = b .rows + b .columns - 17
+
+-- the same, or 32 where the bank is faulty
+unfoldable pub bitsUnlessFaulty : Bank → ℕ
+bitsUnlessFaulty b = cond (faulty b) 32 (megabyteBits b)
+
+-- the bank that holds a megabyte, the number of its first cell and its bits, if there is such a bank
+unfoldable pub selection : Setup → ℕ → Option (ℕ × ℕ × ℕ)
+selection s m = cond (ltb (bankAt s m) 8) (some (bankAt s m, cellsBelow s (bankAt s m), megabyteBits (bank s (bankAt s m)))) none
+
+-- refusal 5, no bank, or the bank with its first cell and its bits
+abbrev pub paperSelection : Selection → Outcome (Option (ℕ × ℕ × ℕ))
+paperSelection x =
+    cond (ltb 8 (x .bank)) (refused (paper NotReady)) (given (cond (ltb (x .bank) 8) (some (x .bank, x .first, x .bits)) none))

@@ -1,0 +1,32 @@
+// Eight bytes as one number, the first lowest.
+ghost use mathlib.Core.Path.{_≡_};
+ghost use Prim.Native.Nat.{_+_, _*_, _<_};
+ghost use Rattle.eight_bytes.specs.CodeNumber.{bytesIn, eightAt};
+
+fn wide(x: u8) -> u64
+    ensures { λ r. ⌜ r ≡ x ⌝ }
+{
+    x as u64
+}
+
+fn four(a: u8, b: u8, c: u8, d: u8) -> u64
+    ensures number { λ r. ⌜ r ≡ a + 256 * (b + 256 * (c + 256 * d)) ⌝ }
+    ensures bytes { λ _. ⌜ (a < 256) × (b < 256) × (c < 256) × (d < 256) ⌝ }
+{
+    wide(a) + wide(b) * 256 + wide(c) * 65536 + wide(d) * 16777216
+}
+
+// The eight bytes from an index on; 0 if there are fewer.
+pub fn number_at(bytes: &[u8], at: usize) -> u64
+    ensures { λ r. ⌜ bytesIn 8 r ≡ eightAt (now (bytes .entry)) at ⌝ }
+{
+    if bytes.len() < 8 {
+        return 0;
+    }
+    if bytes.len() - 8 < at {
+        return 0;
+    }
+    let low = four(bytes[at], bytes[at + 1], bytes[at + 2], bytes[at + 3]);
+    let high = four(bytes[at + 4], bytes[at + 5], bytes[at + 6], bytes[at + 7]);
+    low + high * 4294967296
+}

@@ -1,0 +1,84 @@
+-- No output line is longer than `longestOutputLine`.
+use mathlib.Core.Path.{_≡_, refl}
+use mathlib.Core.Bool.{_||_}
+use mathlib.Core.List.{List, [], _∷_, append-nil}
+use mathlib.Core.Option.{Option, none, some}
+use Prim.Native.Nat.{ℕ, _≤_}
+use native.Mathlib.Omega.{arith}
+use lib.Dec.{ltb, eqb}
+use lib.ListN.{length, getD, length-take, length-append, length-replicate}
+use borrow.Author.Tests.{ltb-false}
+use Rattle.basics.proofs.RangeLaws.{byCases}
+use Rattle.basics.proofs.Bools.{or-right}
+use Rattle.refusals.specs.Paper.{Declined, refuse, Outcome, refused, given}
+use Rattle.refusals.proofs.ChainLaws.{else-left, else-right, cause-fails}
+use Rattle.register_calls.specs.Calls.{readAt, declined}
+use Rattle.calls.specs.Calls.{MemoryCall, read, write, flip, scrub, readIn, parts, Call, memory, readRegister, writeRegister}
+use Rattle.calls.specs.Spans.{byCall, byArguments, byCount, bySpans, missed}
+use Rattle.calls.specs.State.{State}
+use Rattle.calls.specs.Answers.{effectOf}
+use Rattle.banks.specs.Judge.{notReady}
+use Rattle.banks.specs.Map.{cellOf}
+use Rattle.machine.specs.Cells.{onCell, readCell}
+use Rattle.machine.specs.Calls.{setup, spansOf, unlent, refusal, onTarget, accessAt, access, accesses, performed, memoryCall, called}
+use Rattle.parser.specs.Format.{parse}
+use Rattle.print.specs.Digits.{decimal, hexPairs}
+use Rattle.print.specs.Output.{refusedText, letterOf, malformedText, registerWriteText, registerReadText, answerText, callText}
+use Rattle.print.specs.CodePrinted.{longestOutputLine}
+use Rattle.print.proofs.PrintLaws.{pairs-length}
+use Rattle.line.specs.Line.{callOf, orMalformed, lineOf}
+
+refused-few : (l n : ℕ) → length (refusedText l n) ≤ 5
+unfolding refusedText decimal
+refused-few l n = byCases (ltb n 10) (λ t. rw t (omega arith)) (λ t. rw t (omega arith))
+
+register-write-few : (d : Declined) → length (registerWriteText d) ≤ 5
+unfolding registerWriteText
+register-write-few none = omega arith
+register-write-few (some n) = refused-few 0x63 (getD n 0 0)
+
+register-read-few : (o : Outcome ℕ) → length (registerReadText o) ≤ 7
+unfolding registerReadText
+register-read-few (refused n) = let h = refused-few 0x67 (getD n 0 0) in omega arith
+register-read-few (given v) = omega arith
+
+module _ (cols : List ℕ) (st : State) where
+  -- a read's access gives no more bytes than it asks for
+  read-few : (a n : ℕ) → length (access cols st (readIn a n) .0 .bytes) ≤ n
+  unfolding access accessAt onTarget onCell readCell missed
+  read-few a n = go (cellOf (setup st) a)
+    where
+      go : (o : Option ℕ) → length (onTarget cols o (st .cells) (readIn a n) .0 .bytes) ≤ n
+      go none = omega (arith, length-replicate {A = ℕ} n 0xFF)
+      go (some k) = simp length-take (omega arith)
+
+  -- and no more than eight, if it is accepted
+  count-few : (a n : ℕ) → refusal st (read a n) ≡ none → n ≤ 8
+  unfolding refusal byCall byArguments byCount
+  count-few a n e =
+      let c = else-left (byCall (spansOf (setup st)) (read a n)) (unlent st (parts (read a n))) (else-right (notReady (setup st)) _ e) in
+      let first = else-left (refuse (eqb n 0 || ltb 8 n) (6 ∷ [])) _ (else-left (byCount a n) (bySpans (spansOf (setup st)) (read a n)) c) in
+      ltb-false 8 n (or-right (eqb n 0) (ltb 8 n) (cause-fails (eqb n 0 || ltb 8 n) (6 ∷ []) first))
+
+  call-few : (c : MemoryCall) (d : Declined) → refusal st c ≡ d → length (callText c (effectOf (performed cols d st (parts c)) [] .answer) (effectOf (performed cols d st (parts c)) [] .buffer)) ≤ longestOutputLine
+  unfolding performed accesses callText answerText parts
+  call-few c (some n) e = let h = refused-few (letterOf c) (getD n 0 0) in omega arith
+  call-few (read a n) none e =
+      let bytes = access cols st (readIn a n) .0 .bytes in
+      let few = count-few a n e in
+      let h = read-few a n in
+      rw (append-nil bytes, length-append (hexPairs bytes) (0x0A ∷ [])) (omega (arith, pairs-length bytes))
+  call-few (write a bs) none e = omega arith
+  call-few (flip a b) none e = omega arith
+  call-few (scrub a) none e = omega arith
+
+  orMalformed-few : (o : Option Call) → length (orMalformed cols st o .0) ≤ longestOutputLine
+  unfolding orMalformed callOf called memoryCall malformedText
+  orMalformed-few none = let h = refused-few 0x3F 18 in omega arith
+  orMalformed-few (some (memory c)) = call-few c (refusal st c) refl
+  orMalformed-few (some (readRegister o)) = let h = register-read-few (readAt (st .registers) o) in omega arith
+  orMalformed-few (some (writeRegister o v)) = let h = register-write-few (declined (st .registers) o v) in omega arith
+
+  pub line-few : (line : List ℕ) → length (lineOf cols st line .0) ≤ longestOutputLine
+  unfolding lineOf
+  line-few line = orMalformed-few (parse line)

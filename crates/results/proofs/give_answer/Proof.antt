@@ -1,0 +1,20 @@
+use borrow.Author.Needs.{needs}
+use Rattle.results.proofs.give_answer.Statement.{statement}
+use Rattle.results.proofs.give_answer.Tie as tie
+
+returns : tie.Need-returns
+returns c = simp (c .before .before .enum-told .given .1, c .numbers-of .ensures)
+
+returns-2 : tie.Need-returns-2
+returns-2 c = simp (c .before .before .verdict .given .1, c .of-refusal .ensures)
+
+pub give-answer-spec : {M : Type 1} → statement M
+give-answer-spec =
+    tie.close
+    (tie.spec
+    (λ c. search needs)
+    (λ c κs. search needs)
+    (λ c. search needs)
+    (λ c κs. search needs)
+    returns
+    returns-2)
