@@ -1,0 +1,6 @@
+use borrow.Author.Needs.{needs}
+use Rattle.memory_calls.proofs.read.Statement.{statement}
+use Rattle.memory_calls.proofs.read.Tie as tie
+
+pub read-spec : {M : Type 1} → statement M
+read-spec = tie.close (tie.spec (λ c κs. search needs) (λ c. search needs) (λ c. c .before .before .read-in-place .ensures))

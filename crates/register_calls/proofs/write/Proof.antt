@@ -1,0 +1,6 @@
+use borrow.Author.Needs.{needs}
+use Rattle.register_calls.proofs.write.Statement.{statement}
+use Rattle.register_calls.proofs.write.Tie as tie
+
+pub write-spec : {M : Type 1} → statement M
+write-spec = tie.close (tie.spec (λ c κs. search needs) (λ c. c .write-in-place .ensures))
