@@ -30,3 +30,26 @@ pub fn number_at(bytes: &[u8], at: usize) -> u64
     let high = four(bytes[at + 4], bytes[at + 5], bytes[at + 6], bytes[at + 7]);
     low + high * 4294967296
 }
+
+// The eight bytes of a number.
+pub fn bytes_of(x: u64) -> [u8; 8]
+    ensures { λ r. ⌜ r ≡ bytesIn 8 x ⌝ }
+{
+    let b = x / 256;
+    let c = b / 256;
+    let d = c / 256;
+    let e = d / 256;
+    let f = e / 256;
+    let g = f / 256;
+    let h = g / 256;
+    [
+        (x % 256) as u8,
+        (b % 256) as u8,
+        (c % 256) as u8,
+        (d % 256) as u8,
+        (e % 256) as u8,
+        (f % 256) as u8,
+        (g % 256) as u8,
+        (h % 256) as u8,
+    ]
+}

@@ -10,7 +10,7 @@ ghost use Rattle.ecc.specs.Columns.{columnsFor};
 ghost use Rattle.ecc.specs.CheckCode.{syndromeOf};
 ghost use Rattle.ecc.specs.Doubleword.{bytesOfNumber};
 ghost use Rattle.ecc.specs.Cell.{encode, loadOf};
-ghost use Rattle.ecc.specs.CodeLoad.{decodedOf};
+ghost use Rattle.correction.specs.CodeLoad.{decodedOf};
 ghost use Rattle.ecc.specs.Lending.{cellAt, isLent, putCell};
 ghost use Rattle.calls.specs.Calls.{readIn, writeIn, flipIn, scrubIn, Got, got};
 ghost use Rattle.machine.specs.Cells.{answerOf};
@@ -24,7 +24,7 @@ use crate::lent::doubleword_at;
 use crate::lent::flip_at;
 use crate::lent::put_cell;
 use calls::Kind;
-use ecc::Loaded;
+use correction::Loaded;
 use ecc::Reading;
 
 fn kind_of(reading: Reading) -> Kind
@@ -64,7 +64,7 @@ fn syndrome_at(lent: bool, columns: &[u8], cells: &[u8], k: usize) -> u8
     ensures { λ s. ⌜ s ≡ syndromeOf (columnsFor lent (now (columns .entry))) (cellAt (now (cells .entry)) k) ⌝ }
 {
     let doubleword = doubleword_at(cells, k);
-    ecc::syndrome(lent, columns, doubleword, check_at(cells, k))
+    correction::syndrome(lent, columns, doubleword, check_at(cells, k))
 }
 
 // What cell k gives, if s is its syndrome.
@@ -72,7 +72,7 @@ fn load(lent: bool, columns: &[u8], cells: &[u8], k: usize, s: u8) -> Loaded
     requires { ⌜ (isLent (now cells) k ≡ true) × (s ≡ syndromeOf (columnsFor lent (now columns)) (cellAt (now cells) k)) ⌝ }
     ensures { λ x. ⌜ decodedOf x ≡ loadOf (columnsFor lent (now (columns .entry))) (cellAt (now (cells .entry)) k) ⌝ }
 {
-    ecc::correct(lent, columns, doubleword_at(cells, k), s)
+    correction::correct(lent, columns, doubleword_at(cells, k), s)
 }
 
 fn store_if(wanted: bool, lent: bool, columns: &[u8], cells: &mut [u8], k: usize, doubleword: u64)
@@ -80,7 +80,7 @@ fn store_if(wanted: bool, lent: bool, columns: &[u8], cells: &mut [u8], k: usize
     ensures { λ _. ⌜ now (cells .exit) ≡ cond wanted (putCell (now (cells .entry)) k (encode (columnsFor lent (now (columns .entry))) (bytesOfNumber doubleword))) (now (cells .entry)) ⌝ }
 {
     if wanted {
-        put_cell(cells, k, ecc::encode(lent, columns, doubleword));
+        put_cell(cells, k, correction::encode(lent, columns, doubleword));
     }
 }
 

@@ -26,21 +26,15 @@ fn copy_all(doubleword: u64, buffer: &mut [u8])
     requires { ⌜ length (now buffer) ≡ 8 ⌝ }
     ensures { λ _. ⌜ now (buffer .exit) ≡ bytesOfNumber doubleword ⌝ }
 {
-    let b = doubleword / 256;
-    let c = b / 256;
-    let d = c / 256;
-    let e = d / 256;
-    let f = e / 256;
-    let g = f / 256;
-    let h = g / 256;
-    buffer[0] = (doubleword % 256) as u8;
-    buffer[1] = (b % 256) as u8;
-    buffer[2] = (c % 256) as u8;
-    buffer[3] = (d % 256) as u8;
-    buffer[4] = (e % 256) as u8;
-    buffer[5] = (f % 256) as u8;
-    buffer[6] = (g % 256) as u8;
-    buffer[7] = (h % 256) as u8;
+    let bytes = eight_bytes::bytes_of(doubleword);
+    buffer[0] = bytes[0];
+    buffer[1] = bytes[1];
+    buffer[2] = bytes[2];
+    buffer[3] = bytes[3];
+    buffer[4] = bytes[4];
+    buffer[5] = bytes[5];
+    buffer[6] = bytes[6];
+    buffer[7] = bytes[7];
 }
 
 // Fills the buffer from byte `offset` of the doubleword on; eight bytes need no loop.

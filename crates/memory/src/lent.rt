@@ -56,7 +56,7 @@ fn invert(part: &mut [u8], b: usize)
     ensures { λ _. ⌜ now (part .exit) ≡ flipBit (now (part .entry)) b ⌝ }
 {
     let i = b / 8;
-    part[i] = ecc::flip_byte(part[i], b);
+    part[i] = correction::flip_byte(part[i], b);
 }
 
 // FORM-6: inverts a flip bit of cell k. One byte is stored, since eight that are read back after it would wait for it.

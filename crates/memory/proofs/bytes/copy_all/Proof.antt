@@ -1,9 +1,8 @@
-use mathlib.Core.Path.{refl}
+use mathlib.Core.Path.{_∙_}
 use native.Mathlib.Omega.{arith}
 use lib.ListN.{length-set}
 use Rattle.ecc.specs.Doubleword.{bytesOfNumber}
-use Rattle.ecc.proofs.DoublewordLaws.{number-length}
-use Rattle.basics.proofs.ListLaws.{all-stored}
+use Rattle.basics.proofs.ListLaws.{listFrom, from-all, all-stored}
 use borrow.Author.Needs.{needs}
 use Rattle.memory.proofs.bytes.copy_all.Statement.{statement}
 use Rattle.memory.proofs.bytes.copy_all.Tie as tie
@@ -25,12 +24,15 @@ same-length c = simp length-set
 
 returns : tie.Need-returns
 unfolding bytesOfNumber
-returns c = all-stored (c .args .buffer .now) (bytesOfNumber (c .args .doubleword)) (omega (arith, number-length (c .args .doubleword)))
+returns c =
+    let b = c .bytes-of in
+    all-stored (c .before .before .args .buffer .now) (listFrom (b .result) 0 8) (omega arith) ∙ from-all (b .result) 8 (search needs) ∙ b .ensures
 
 pub copy-all-spec : {M : Type 1} → statement M
 copy-all-spec =
     tie.close
     (tie.spec
+    (λ c κs. search needs)
     (λ c. search needs)
     (λ c. search needs)
     (λ c. search needs)

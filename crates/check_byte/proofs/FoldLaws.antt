@@ -1,0 +1,121 @@
+-- The folded check byte is the check byte under the columns of ECC-2: both respect the exclusive-or, and they agree on every doubleword with just
+-- one bit set, which is shown by computation.
+use mathlib.Core.Path.{_≡_, refl, ap, ap₂, _∙_}
+use mathlib.Core.Bool.{true}
+use mathlib.Core.List.{List}
+use Prim.Native.Nat.{ℕ, zero, suc, _-_, _*_, _/_, _%_, _^_, _<_}
+use native.Mathlib.Omega.{arith}
+use borrow.Author.Tests.{eqb-true}
+use lib.Bits.{bitAnd, bitXor}
+use lib.Dec.{eqb}
+use lib.ListN.{getD}
+use Rattle.basics.specs.Range.{every}
+use Rattle.basics.proofs.RangeLaws.{every-at}
+use Rattle.basics.proofs.XorLaws.{xor-four}
+use Rattle.basics.proofs.LinearLaws.{Linear, linear-self, linear-and, linear-shr, linear-mod, linear-shl, linear-xor, linear-same}
+use Rattle.ecc.specs.Columns.{columns}
+use Rattle.ecc.specs.CheckCode.{bitAt, dataBit, taken, xorOf, checkOf}
+use Rattle.ecc.specs.Doubleword.{bytesOfNumber}
+use Rattle.check_byte.specs.CodeFold.{rotated, masked, folded, overShifted, foldedMasks, parities, gathered, foldedCheck}
+use Rattle.ecc.proofs.BitLaws.{bit-lt, bit-xor, taken-xor}
+use Rattle.ecc.proofs.DoublewordLaws.{number-at}
+use Rattle.ecc.proofs.FlipLaws.{data-lt}
+
+-- ---- the check byte under any columns
+
+-- the bits of h are those of f and g together
+xor-bits : (f g h : ℕ → ℕ) (cols : List ℕ) (n : ℕ) → ((i : ℕ) → f i < 2) → ((i : ℕ) → g i < 2)
+    → ((i : ℕ) → i < n → h i ≡ bitXor (f i) (g i)) → xorOf h cols n ≡ bitXor (xorOf f cols n) (xorOf g cols n)
+unfolding xorOf
+xor-bits f g h cols zero lf lg e = refl
+xor-bits f g h cols (suc n) lf lg e =
+    let c : ℕ = getD cols n 0 in
+    ap₂ (λ (x y : ℕ). bitXor x (taken y c)) (xor-bits f g h cols n lf lg (λ i l. e i (omega arith))) (e n (omega arith))
+    ∙ ap (bitXor (bitXor (xorOf f cols n) (xorOf g cols n))) (taken-xor (f n) (g n) c (lf n) (lg n))
+    ∙ xor-four (xorOf f cols n) (xorOf g cols n) (taken (f n) c) (taken (g n) c)
+
+byte-linear : (k : ℕ) → k < 8 → Linear (λ x. getD (bytesOfNumber x) k 0)
+byte-linear k h x y =
+    number-at (bitXor x y) k h
+    ∙ linear-mod (λ z. z / 2 ^ (8 * k)) (linear-shr (λ z. z) linear-self (8 * k)) 8 x y
+    ∙ rw (number-at x k h, number-at y k h)
+
+check-linear : (cols : List ℕ) → Linear (λ x. checkOf cols (bytesOfNumber x))
+unfolding checkOf dataBit
+check-linear cols x y =
+    xor-bits (dataBit (bytesOfNumber x)) (dataBit (bytesOfNumber y)) (dataBit (bytesOfNumber (bitXor x y))) cols 64
+    (data-lt (bytesOfNumber x)) (data-lt (bytesOfNumber y))
+    (λ i l. ap (λ (z : ℕ). bitAt z (7 - i % 8)) (byte-linear (i / 8) (omega arith) x y)
+    ∙ bit-xor (getD (bytesOfNumber x) (i / 8) 0) (getD (bytesOfNumber y) (i / 8) 0) (7 - i % 8))
+
+-- ---- the folds
+
+module _ (f g : ℕ → ℕ) (lf : Linear f) (lg : Linear g) where
+  masked-linear : (k l : ℕ) → Linear (λ x. masked (f x) (g x) k l)
+  unfolding masked
+  masked-linear k l = linear-xor (λ x. bitAnd (f x) k) (λ x. bitAnd (g x) l) (linear-and f lf k) (linear-and g lg l)
+
+rotated-linear : (f : ℕ → ℕ) → Linear f → (n : ℕ) → Linear (λ x. rotated (f x) n)
+unfolding rotated
+rotated-linear f lf n =
+    linear-xor (λ x. f x * 2 ^ n % 2 ^ 64) (λ x. f x / 2 ^ (64 - n)) (linear-shl f lf 64 n) (linear-shr f lf (64 - n))
+
+shifted-linear : (f : ℕ → ℕ) → Linear f → (n : ℕ) → Linear (λ x. overShifted (f x) n)
+unfolding overShifted
+shifted-linear f lf n = linear-xor f (λ x. f x / 2 ^ n) lf (linear-shr f lf n)
+
+module _ (f g : ℕ → ℕ) (lf : Linear f) (lg : Linear g) (s n : ℕ) where
+  w : ℕ → ℕ
+  w x = bitAnd (bitXor (f x) (g x)) s
+
+  w-linear : Linear w
+  unfolding w
+  w-linear = linear-and (λ x. bitXor (f x) (g x)) (linear-xor f g lf lg) s
+
+  folded-linear : Linear (λ x. folded (f x) (g x) s n)
+  unfolding folded w
+  folded-linear =
+      linear-xor (λ x. bitXor (g x) (w x)) (λ x. rotated (bitXor (f x) (w x)) n) (linear-xor g w lg w-linear)
+      (rotated-linear (λ x. bitXor (f x) (w x)) (linear-xor f w lf w-linear) n)
+
+-- a number and the same number with its halves exchanged, each under its mask; and two of these, folded
+masks-linear : (k l : ℕ) → Linear (λ x. masked x (rotated x 32) k l)
+masks-linear = masked-linear (λ x. x) (λ x. rotated x 32) linear-self (rotated-linear (λ x. x) linear-self 32)
+
+pair-linear : (k l m n : ℕ) → Linear (λ x. folded (masked x (rotated x 32) k l) (masked x (rotated x 32) m n) 0x0000ffff0000ffff 16)
+pair-linear k l m n =
+    folded-linear (λ x. masked x (rotated x 32) k l) (λ x. masked x (rotated x 32) m n) (masks-linear k l) (masks-linear m n) 0x0000ffff0000ffff 16
+
+folded-masks-linear : Linear foldedMasks
+unfolding foldedMasks
+folded-masks-linear =
+    folded-linear _ _ (pair-linear 0xef200020fff059ed 0x488d000f0342911a 0xfb3f44e03c26c0b6 0x220f3400bd08788c)
+    (pair-linear 0xf71007e003f0aada 0x914a3f007cc12215 0x00ffff1fc411c771 0x00000000de848843) 0x00ff00ff00ff00ff 8
+
+thrice-linear : (f : ℕ → ℕ) → Linear f → (i j k : ℕ) → Linear (λ x. overShifted (overShifted (overShifted (f x) i) j) k)
+thrice-linear f lf i j k =
+    shifted-linear (λ x. overShifted (overShifted (f x) i) j) (shifted-linear (λ x. overShifted (f x) i) (shifted-linear f lf i) j) k
+
+parities-linear : (f : ℕ → ℕ) → Linear f → Linear (λ x. parities (f x))
+unfolding parities
+parities-linear f lf = linear-and (λ x. overShifted (overShifted (overShifted (f x) 4) 2) 1) (thrice-linear f lf 4 2 1) 0x0101010101010101
+
+gathered-linear : (f : ℕ → ℕ) → Linear f → Linear (λ x. gathered (f x))
+unfolding gathered
+gathered-linear f lf = linear-mod (λ x. overShifted (overShifted (overShifted (f x) 7) 14) 28) (thrice-linear f lf 7 14 28) 8
+
+fold-linear : Linear foldedCheck
+unfolding foldedCheck
+fold-linear = gathered-linear (λ x. parities (foldedMasks x)) (parities-linear foldedMasks folded-masks-linear)
+
+-- ---- they agree
+
+one-bit : every (λ k. eqb (foldedCheck (2 ^ k)) (checkOf columns (bytesOfNumber (2 ^ k)))) 64 ≡ true
+unfolding every foldedCheck gathered parities foldedMasks folded overShifted masked rotated checkOf xorOf dataBit bitAt bytesOfNumber
+one-bit = refl
+
+pub fold-is-check : (x : ℕ) → x < 2 ^ 64 → foldedCheck x ≡ checkOf columns (bytesOfNumber x)
+fold-is-check =
+    linear-same foldedCheck (λ x. checkOf columns (bytesOfNumber x)) fold-linear (check-linear columns) 64
+    (λ k h. eqb-true (foldedCheck (2 ^ k)) (checkOf columns (bytesOfNumber (2 ^ k)))
+    (every-at (λ j. eqb (foldedCheck (2 ^ j)) (checkOf columns (bytesOfNumber (2 ^ j)))) 64 one-bit k h))
