@@ -26,7 +26,7 @@
  *   mpc106_refusal_text(result) says it in words.
  *   No call fails in any other way, on any input. A REFUSED CALL LEAVES EVERYTHING AS IT WAS: record, cells,
  *   buffer, and what its other pointers point to.
- *   If two refusals apply, the lower number is returned, except that 10 comes before 9, and that switching
+ *   If two refusals apply, the lower number is returned, except that 10, 19 and 20 come before 9, and that switching
  *   on looks for 11; then for 12 and 13, bank by bank upward; then for 14, at the lowest such bank.
  *
  * WHAT IS LENT
@@ -52,12 +52,13 @@
  *   B8       single-bit counter: each MPC106_CORRECTED raises it by one, stopping at 255
  *   B9       single-bit trigger
  *   C0       error enables 1: bit 5 lets C1 bit 5 be set, and bit 2 C1 bit 2; its other bits do nothing
- *   C1       error detection 1: bit 5, a read, write or scrub found no bank; bit 2, B8 rose and was then
- *            equal to B9. Writing a 1 clears that bit
+ *   C1       error detection 1: bit 5, a read, write, scrub or beat of a burst found no bank; bit 2, B8 rose and was
+ *            then equal to B9. Writing a 1 clears that bit
  *   C4       error enables 2: bit 3 lets C5 bit 3 be set; its other bits do nothing
  *   C5       error detection 2: bit 3, a doubleword was uncorrectable. Writing a 1 clears that bit
  *   C8..CB   error address, lowest byte first, read only: the address of the last call that set a bit of C1 or C5
- *            while all bits of both were zero, as the call was given it and not rounded down to its doubleword
+ *            while all bits of both were zero, as the call was given it and not rounded down to its doubleword.
+ *            Each beat of a burst counts as a call here, with the address of the beat
  *   F0, F1   row codes, two bits for each bank: banks 0 to 3 from the low end of F0, 4 to 7 of F1. Codes
  *            0, 1, 2, 3 mean 9, 10, 11, 12 row bits
  *   F2       bit 3 switches memory on: write 8 for on, 0 for off, and no other value
@@ -76,12 +77,13 @@
 
 /* The version of this interface: a program that compiles with one compiles with every later one of the same major version. */
 #define MPC106_VERSION_MAJOR 1
-#define MPC106_VERSION_MINOR 0
+#define MPC106_VERSION_MINOR 1
 #define MPC106_VERSION_PATCH 0
 #define MPC106_VERSION (MPC106_VERSION_MAJOR * 10000 + MPC106_VERSION_MINOR * 100 + MPC106_VERSION_PATCH)
 
-/* The number of bytes of a cell, and the most parts that an answer has. */
+/* The number of bytes of a cell and of a cache line, and the most parts that an answer has. */
 #define MPC106_CELL_BYTES 9
+#define MPC106_LINE_BYTES 32
 #define MPC106_PARTS 4
 
 /* The offsets of the registers; the table above says what each holds. */
@@ -104,7 +106,7 @@
 #define MPC106_REFUSAL(result) ((result) & 0xffu)
 #define MPC106_REFUSED_BANK(result) (((result) >> 8) & 0xffu)
 
-/* The refusals. */
+/* The refusals. No call returns 18. */
 enum mpc106_refusal {
     MPC106_UNLISTED_OFFSET = 1,         /* the offset has no register */
     MPC106_READ_ONLY = 2,               /* a write at C8 to CB */
@@ -114,7 +116,7 @@ enum mpc106_refusal {
     MPC106_COUNT_OUT_OF_RANGE = 6,      /* a count of 0 or above 8 */
     MPC106_CROSSES_DOUBLEWORD = 7,      /* the access leaves its doubleword */
     MPC106_BIT_OUT_OF_RANGE = 8,        /* a flip of a bit above 71 */
-    MPC106_NOT_LENT = 9,                /* the cell is not wholly within the lent cells */
+    MPC106_NOT_LENT = 9,                /* the cell, or one of a burst's, is not wholly within the lent cells */
     MPC106_FLIP_WITHOUT_BANK = 10,      /* a flip where no bank holds the address */
     MPC106_NO_BANK_ENABLED = 11,        /* switching on with no bank enabled */
     MPC106_START_ABOVE_END = 12,        /* with the bank: it starts above its end */
@@ -122,15 +124,17 @@ enum mpc106_refusal {
     MPC106_OVERLAP = 14,                /* with the bank: its span meets a lower enabled bank's */
     MPC106_BANK_OFF = 15,               /* the way back of a bank above 7, or of one that is off */
     MPC106_ROW_OR_COLUMN_TOO_LARGE = 16, /* the way back of a row or column that the bank does not have */
-    MPC106_NO_ADDRESS = 17              /* no address has that bank, row and column */
+    MPC106_NO_ADDRESS = 17,             /* no address has that bank, row and column */
+    MPC106_MISALIGNED = 19,             /* the address of a burst is no multiple of 8 */
+    MPC106_NOT_CACHE_LINE = 20          /* a burst of more or fewer than 32 bytes */
 };
 
-/* The kind of one part of an accepted read, write or scrub. 0 is no kind. */
+/* The kind of one part of an accepted read, write, scrub or burst. 0 is no kind. */
 enum mpc106_kind {
     MPC106_CLEAN = 1,         /* nothing was wrong */
     MPC106_CORRECTED = 2,     /* one bit was wrong and was corrected */
     MPC106_UNCORRECTABLE = 3, /* more bits were wrong than can be corrected */
-    MPC106_STORED = 4,        /* a write of 8 bytes */
+    MPC106_STORED = 4,        /* a write of 8 bytes, or a beat of a burst write */
     MPC106_NO_BANK = 5        /* no enabled bank holds the address */
 };
 
@@ -149,7 +153,10 @@ typedef struct mpc106_memory {
     size_t cells_length;
 } mpc106_memory;
 
-/* What an accepted read, write or scrub gives: the number of its parts, at present 1, and the parts; unused ones are 0. */
+/*
+ * What an accepted read, write, scrub or burst gives: the number of its parts, 4 for a burst and at present 1 for any
+ * other call, and the parts; unused ones are 0.
+ */
 typedef struct mpc106_answer {
     uint32_t count;
     uint32_t part[MPC106_PARTS];
@@ -168,7 +175,7 @@ typedef struct mpc106_place {
  * What the archive contains. Each mpc106_raw_NAME does what mpc106_NAME below does, and returns the same. Its parameters:
  *   registers, first, second       the 256 bytes of a record
  *   cells, cells_length            the lent cells, and how many bytes they have
- *   buffer or bytes, its length    of a read or write; the length is the count of bytes
+ *   buffer or bytes, its length    of a read, write or burst; the length is the count of bytes
  *   answer                         five numbers: the count, then four parts
  *   place                          five numbers: found, bank, row, column, cell
  *   count, value, address, alike   the one number that the call gives
@@ -193,6 +200,10 @@ uint32_t mpc106_raw_flip(const uint8_t registers[256], uint8_t *cells, size_t ce
                          uint32_t bit);
 uint32_t mpc106_raw_scrub(uint8_t registers[256], uint8_t *cells, size_t cells_length, uint32_t address,
                           uint32_t answer[5]);
+uint32_t mpc106_raw_burst_read(uint8_t registers[256], const uint8_t *cells, size_t cells_length, uint32_t address,
+                               uint8_t *buffer, size_t buffer_length, uint32_t answer[5]);
+uint32_t mpc106_raw_burst_write(uint8_t registers[256], uint8_t *cells, size_t cells_length, uint32_t address,
+                                const uint8_t *bytes, size_t bytes_length, uint32_t answer[5]);
 #ifdef __cplusplus
 }
 #endif
@@ -222,6 +233,8 @@ static inline const char *mpc106_refusal_text(uint32_t result)
     case MPC106_BANK_OFF: return "the bank is above 7 or not enabled";
     case MPC106_ROW_OR_COLUMN_TOO_LARGE: return "the bank has no such row or column";
     case MPC106_NO_ADDRESS: return "no address has this bank, row and column";
+    case MPC106_MISALIGNED: return "the address of the burst is not a multiple of 8";
+    case MPC106_NOT_CACHE_LINE: return "the number of bytes of the burst is not 32";
     default: return "a refusal that this header doesn't know";
     }
 }
@@ -358,6 +371,39 @@ static inline uint32_t mpc106_scrub(const mpc106_memory *memory, uint32_t addres
 {
     return mpc106_raw_scrub(memory->record->registers, memory->cells, memory->cells_length, address,
                             (uint32_t *)answer);
+}
+
+/*
+ * Reads a cache line, the 32 bytes from a multiple of 32 on, into buffer, in four beats of one doubleword each.
+ * So count must be MPC106_LINE_BYTES.
+ * The first beat is at address, which must be a multiple of 8. Each other beat is at the doubleword behind the one
+ * before it, and behind the last doubleword of the line comes the first: the beats of a burst at 0x50 are at 0x50,
+ * 0x58, 0x40 and 0x48.
+ * Each beat is what mpc106_read of 8 bytes is. It gives a part of the answer and eight bytes of buffer, both in the
+ * order of the beats; no kind of part stops the burst. The error registers are left as four such calls leave them.
+ * If one of the four cells is not lent, the burst is refused whole.
+ * Refused: 5, 19, 20, 9.
+ */
+static inline uint32_t mpc106_burst_read(const mpc106_memory *memory, uint32_t address, uint8_t *buffer, size_t count,
+                                         mpc106_answer *answer)
+{
+    return mpc106_raw_burst_read(memory->record->registers, memory->cells, memory->cells_length, address, buffer,
+                                 count, (uint32_t *)answer);
+}
+
+/*
+ * Writes a cache line in four beats, with the addresses and the order of mpc106_burst_read. So count must be
+ * MPC106_LINE_BYTES, and the first eight bytes go to address.
+ * Each beat is what mpc106_write of 8 bytes is: it gives MPC106_STORED, whatever was there before, or
+ * MPC106_NO_BANK. The error registers are left as four such calls leave them.
+ * If one of the four cells is not lent, the burst is refused whole.
+ * Refused: 5, 19, 20, 9.
+ */
+static inline uint32_t mpc106_burst_write(const mpc106_memory *memory, uint32_t address, const uint8_t *bytes,
+                                          size_t count, mpc106_answer *answer)
+{
+    return mpc106_raw_burst_write(memory->record->registers, memory->cells, memory->cells_length, address, bytes,
+                                  count, (uint32_t *)answer);
 }
 
 #endif

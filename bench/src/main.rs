@@ -9,8 +9,13 @@
 //! caches. These doublewords hold random bytes; in rows of corrected reads each has one bit inverted, and in rows of uncorrectable reads two.
 //! Error reporting is enabled. After a row, record, buffer, answer and those cells must be equal on all sides.
 //!
+//! A burst starts at one of these doublewords and goes on within its line. In the row with a corrected beat, one doubleword of each line has one
+//! bit inverted. The rows of four single calls go to the doublewords of the same bursts in the same order, and their time is that of all four;
+//! the last two tables of calls have the time of a burst divided by it, on each side.
+//!
 //! The functions timed are not inlined into the loop: ours and the limit's are C functions of archives, called through the declarations of
 //! `rust/src/ffi.rs` and of `bench/limit`, and the model's are in another crate.
+mod bursts;
 mod lines;
 mod other;
 mod rows;
@@ -29,5 +34,8 @@ fn main() {
         other::run(&mut table);
     }
     table.print();
+    for (burst, single_calls) in rows::REPLACED {
+        table.print_ratios(burst, single_calls);
+    }
     lines::print();
 }

@@ -1,9 +1,10 @@
 //! The rows of memory calls and of the map, for each set-up.
+use crate::bursts;
 use crate::setups::{self, Setup};
 use crate::table::{over, Row, Table};
 use model::gen::Rng;
 use model::{memory, Record};
-use mpc106::{ffi, CELL_BYTES};
+use mpc106::{ffi, CELL_BYTES, LINE_BYTES};
 use std::hint::black_box;
 use std::ops::Range;
 
@@ -17,15 +18,17 @@ enum Flips {
     None,
     One,
     Two,
+    /// One, in one of the four doublewords of each line.
+    OneInLine,
 }
 
 /// What one side works on. The numbers are an answer, or a place.
 #[derive(Clone)]
-struct Machine {
-    record: Record,
-    cells: Vec<u8>,
-    buffer: [u8; 8],
-    numbers: [u32; 5],
+pub struct Machine {
+    pub record: Record,
+    pub cells: Vec<u8>,
+    pub buffer: [u8; LINE_BYTES],
+    pub numbers: [u32; 5],
 }
 
 /// What a row calls, on each side.
@@ -36,9 +39,21 @@ enum Call {
     Scrub,
     Flip,
     Map,
+    BurstRead,
+    BurstWrite,
+    FourReads,
+    FourWrites,
 }
 
-const ROWS: [(&str, Call, Flips); 9] = [
+const BURST_READ: &str = "burst read";
+const BURST_WRITE: &str = "burst write";
+const FOUR_READS: &str = "four reads of 8";
+const FOUR_WRITES: &str = "four writes of 8";
+
+/// Each burst and the single calls that it replaces.
+pub const REPLACED: [(&str, &str); 2] = [(BURST_READ, FOUR_READS), (BURST_WRITE, FOUR_WRITES)];
+
+const ROWS: [(&str, Call, Flips); 14] = [
     ("read of 8", Call::Read(8), Flips::None),
     ("read of 1", Call::Read(1), Flips::None),
     ("read of 8, corrected", Call::Read(8), Flips::One),
@@ -48,6 +63,15 @@ const ROWS: [(&str, Call, Flips); 9] = [
     ("scrub", Call::Scrub, Flips::None),
     ("flip", Call::Flip, Flips::None),
     ("map", Call::Map, Flips::None),
+    (BURST_READ, Call::BurstRead, Flips::None),
+    (
+        "burst read, one beat corrected",
+        Call::BurstRead,
+        Flips::OneInLine,
+    ),
+    (BURST_WRITE, Call::BurstWrite, Flips::None),
+    (FOUR_READS, Call::FourReads, Flips::None),
+    (FOUR_WRITES, Call::FourWrites, Flips::None),
 ];
 
 pub fn run(table: &mut Table) {
@@ -73,6 +97,10 @@ fn row(table: &mut Table, setup: &Setup, name: &'static str, call: Call, flips: 
         Call::Scrub => scrub_row(table, row, sides),
         Call::Flip => flip_row(table, row, sides),
         Call::Map => map_row(table, row, sides),
+        Call::BurstRead => bursts::read_row(table, row, sides),
+        Call::BurstWrite => bursts::write_row(table, row, sides),
+        Call::FourReads => bursts::four_reads_row(table, row, sides),
+        Call::FourWrites => bursts::four_writes_row(table, row, sides),
     }
     let touched = touched(setup);
     assert!(
@@ -107,6 +135,7 @@ fn addresses(setup: &Setup, call: Call) -> Vec<u32> {
     let mut address = || {
         let inside = match call {
             Call::Read(8) | Call::Write(8) => 0,
+            Call::BurstRead | Call::BurstWrite | Call::FourReads | Call::FourWrites => 0,
             _ => rng.below(8),
         };
         setup.address + 8 * rng.below(DOUBLEWORDS) + inside
@@ -127,26 +156,29 @@ fn machine(setup: &Setup, flips: Flips) -> Machine {
         let first = rng.below(72);
         let second = (first + 1 + rng.below(71)) % 72;
         let bits: &[u32] = match flips {
-            Flips::None => &[],
             Flips::One => &[first],
             Flips::Two => &[first, second],
+            Flips::OneInLine if k % 4 == k / 4 % 4 => &[first],
+            Flips::None | Flips::OneInLine => &[],
         };
         for &bit in bits {
             memory::flip(&record, &mut cells, address, bit as u8).expect("a flip");
         }
     }
+    // All different, so that a burst whose beats are in another order leaves other cells.
+    let buffer = std::array::from_fn(|i| i as u8);
     Machine {
         record,
         cells,
-        buffer: [0; 8],
+        buffer,
         numbers: [0; 5],
     }
 }
 
-type Sides<'a> = (&'a mut Machine, &'a mut Machine, &'a mut Machine);
+pub type Sides<'a> = (&'a mut Machine, &'a mut Machine, &'a mut Machine);
 
 /// Keeps the compiler from leaving out a call whose answer nobody reads.
-fn used<T>(answer: T) {
+pub fn used<T>(answer: T) {
     black_box(answer);
 }
 

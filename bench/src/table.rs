@@ -88,6 +88,37 @@ impl Table {
             print_line(line.name, line.least);
         }
     }
+
+    /// The time of a row divided by that of another of the same group, in each group.
+    pub fn print_ratios(&self, name: &str, other: &str) {
+        let title = format!("{name} / {other}");
+        println!(
+            "\n| {title:<36} | {:>7} | {:>8} | {:>6} |",
+            "ours", "model", "limit"
+        );
+        println!("|{:-<38}|{:->8}:|{:->9}:|{:->7}:|", "", "", "", "");
+        for line in self.lines.iter().filter(|line| line.name == name) {
+            let other = self.least(line.group, other);
+            let [ours, model, limit] = [0, 1, 2].map(|side| ratio(line.least[side], other[side]));
+            let group = line.group;
+            println!("| {group:<36} | {ours:>7} | {model:>8} | {limit:>6} |");
+        }
+    }
+
+    fn least(&self, group: &str, name: &str) -> Times {
+        let mut lines = self.lines.iter();
+        let line = lines.find(|line| line.group == group && line.name == name);
+        line.expect("a row of this group").least
+    }
+}
+
+/// A number with that many places, or nothing.
+fn shown(number: Option<f64>, places: usize) -> String {
+    number.map_or_else(String::new, |x| format!("{x:.places$}"))
+}
+
+fn ratio(first: Option<f64>, second: Option<f64>) -> String {
+    shown(first.zip(second).map(|(a, b)| a / b), 2)
 }
 
 /// The head of a table, in Markdown.
@@ -103,16 +134,12 @@ pub fn print_titles(title: &str) {
 }
 
 pub fn print_line(name: &str, [ours, model, limit]: Times) {
-    let shown = |number: Option<f64>, places: usize| {
-        number.map_or_else(String::new, |x| format!("{x:.places$}"))
-    };
-    let ratio = |other: Option<f64>| shown(ours.zip(other).map(|(a, b)| a / b), 2);
     println!(
         "| {name:<36} | {:>7} | {:>8} | {:>6} | {:>10} | {:>10} |",
         shown(ours, 1),
         shown(model, 1),
         shown(limit, 1),
-        ratio(model),
-        ratio(limit)
+        ratio(ours, model),
+        ratio(ours, limit)
     );
 }

@@ -4,7 +4,7 @@ use crate::Refusal;
 /// The most parts that an answer has.
 const PARTS: usize = 4;
 
-/// What happened at one part of an accepted read, write or scrub.
+/// What happened at one part of an accepted read, write, scrub or burst.
 #[derive(Clone, Copy, Debug, PartialEq, Eq, Hash)]
 pub enum Kind {
     /// Nothing was wrong.
@@ -13,7 +13,7 @@ pub enum Kind {
     Corrected,
     /// More bits were wrong than can be corrected.
     Uncorrectable,
-    /// A write of 8 bytes, which does not look at the old cell.
+    /// A write of 8 bytes or a beat of a burst write, which does not look at the old cell.
     Stored,
     /// No enabled bank holds the address.
     NoBank,
@@ -27,7 +27,8 @@ pub struct Part {
     pub kind: Kind,
 }
 
-/// What an accepted read, write or scrub gives. At present each answer has one part.
+/// What an accepted read, write, scrub or burst gives. A burst has four parts, one for each beat; at present any other
+/// answer has one.
 #[derive(Clone, Copy, Debug, PartialEq, Eq, Hash)]
 pub struct Answer {
     count: usize,
@@ -43,6 +44,11 @@ impl Answer {
     /// The kind of the first part.
     pub fn kind(&self) -> Kind {
         self.parts[0].kind
+    }
+
+    /// The kind of each part: for a burst four, in the order of its beats.
+    pub fn kinds(&self) -> impl Iterator<Item = Kind> + '_ {
+        self.parts().iter().map(|part| part.kind)
     }
 }
 
@@ -86,7 +92,8 @@ mod tests {
             Kind::Uncorrectable,
             Kind::Stored,
         ];
-        assert!(given.parts().iter().map(|part| part.kind).eq(kinds));
+        assert!(given.kinds().eq(kinds));
+        assert_eq!(given.parts().len(), 4);
         assert_eq!(answer([1, 5, 0, 0, 0]).map(|x| x.kind()), Ok(Kind::NoBank));
         assert_eq!(answer([1, 5, 0, 0, 0]).map(|x| x.parts().len()), Ok(1));
     }

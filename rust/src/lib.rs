@@ -8,6 +8,9 @@
 //! With fewer cells than [`Record::cell_count`] returns, memory calls to a higher cell get [`Refusal::NotLent`];
 //! bytes behind the last whole cell are ignored. Nine zero bytes are a valid cell that holds zeros.
 //!
+//! A read or a write is of 1 to 8 bytes in one doubleword. [`Record::burst_read`] and [`Record::burst_write`] are of
+//! a cache line, and their answers have four parts.
+//!
 //! ```
 //! use mpc106::{offset, Kind, Memory, Record};
 //!
@@ -47,3 +50,6 @@ pub use refusal::Refusal;
 
 /// The number of bytes of a cell: eight data bytes in address order, then the check byte.
 pub const CELL_BYTES: usize = 9;
+
+/// The number of bytes of a cache line, which a burst reads or writes.
+pub const LINE_BYTES: usize = 32;

@@ -44,4 +44,14 @@ impl Memory {
     pub fn scrub(&mut self, address: u32) -> Result<Answer, Refusal> {
         self.record.scrub(&mut self.cells, address)
     }
+
+    /// Reads a cache line: see [`Record::burst_read`].
+    pub fn burst_read(&mut self, address: u32, buffer: &mut [u8]) -> Result<Answer, Refusal> {
+        self.record.burst_read(&self.cells, address, buffer)
+    }
+
+    /// Writes a cache line: see [`Record::burst_write`].
+    pub fn burst_write(&mut self, address: u32, bytes: &[u8]) -> Result<Answer, Refusal> {
+        self.record.burst_write(&mut self.cells, address, bytes)
+    }
 }

@@ -3,7 +3,7 @@ use core::error::Error;
 use core::fmt;
 
 /// Why a call was refused. It left everything as it was. If two apply, the lower number is returned, except that
-/// 10 comes before 9, and that switching on has the order given at [`Record::judge`](crate::Record::judge).
+/// 10, 19 and 20 come before 9, and that switching on has the order given at [`Record::judge`](crate::Record::judge).
 #[derive(Clone, Copy, Debug, PartialEq, Eq, Hash)]
 #[non_exhaustive]
 pub enum Refusal {
@@ -23,7 +23,7 @@ pub enum Refusal {
     CrossesDoubleword,
     /// 8: a flip of a bit above 71.
     BitOutOfRange,
-    /// 9: the cell is not wholly within the lent cells.
+    /// 9: the cell, or one of a burst's, is not wholly within the lent cells.
     NotLent,
     /// 10: a flip where no bank holds the address.
     FlipWithoutBank,
@@ -41,12 +41,16 @@ pub enum Refusal {
     RowOrColumnTooLarge,
     /// 17: no address has that bank, row and column.
     NoAddress,
+    /// 19: the address of a burst is no multiple of 8.
+    Misaligned,
+    /// 20: a burst of more or fewer than 32 bytes.
+    NotCacheLine,
     /// A number that the proved library never returns: another library was linked. Holds the number.
     Unknown(u32),
 }
 
 impl Refusal {
-    /// The number of the refusal, 1 to 17, or 0 if it is unknown.
+    /// The number of the refusal, 1 to 17, 19 or 20, or 0 if it is unknown.
     pub fn number(self) -> u8 {
         match self {
             Refusal::UnlistedOffset => 1,
@@ -66,6 +70,8 @@ impl Refusal {
             Refusal::BankOff => 15,
             Refusal::RowOrColumnTooLarge => 16,
             Refusal::NoAddress => 17,
+            Refusal::Misaligned => 19,
+            Refusal::NotCacheLine => 20,
             Refusal::Unknown(_) => 0,
         }
     }
@@ -102,6 +108,8 @@ impl Refusal {
             Refusal::BankOff => "the bank is above 7 or not enabled",
             Refusal::RowOrColumnTooLarge => "the bank has no such row or column",
             Refusal::NoAddress => "no address has this bank, row and column",
+            Refusal::Misaligned => "the address of the burst is not a multiple of 8",
+            Refusal::NotCacheLine => "the number of bytes of the burst is not 32",
             Refusal::Unknown(_) => "a refusal that this crate doesn't know",
         }
     }
@@ -143,6 +151,8 @@ pub(crate) fn accepted(result: u32) -> Result<(), Refusal> {
         (15, 0) => Refusal::BankOff,
         (16, 0) => Refusal::RowOrColumnTooLarge,
         (17, 0) => Refusal::NoAddress,
+        (19, 0) => Refusal::Misaligned,
+        (20, 0) => Refusal::NotCacheLine,
         _ => Refusal::Unknown(result),
     })
 }
@@ -161,7 +171,7 @@ mod tests {
 
     #[test]
     fn refusals_keep_their_number_and_bank() {
-        for number in 1..=17 {
+        for number in (1..=17).chain(19..=20) {
             let x = refusal(number);
             assert_eq!(u32::from(x.number()), number);
             assert_eq!(x.bank(), (12..=14).contains(&number).then_some(0));
@@ -173,7 +183,7 @@ mod tests {
 
     #[test]
     fn results_that_are_never_given_are_told_apart() {
-        for result in [18, 0x105, 0x10005, 0x1_0000, u32::MAX] {
+        for result in [18, 21, 0x105, 0x113, 0x10005, 0x1_0000, u32::MAX] {
             assert_eq!(refusal(result), Refusal::Unknown(result));
         }
         assert_eq!(accepted(0), Ok(()));
@@ -181,8 +191,8 @@ mod tests {
 
     #[test]
     fn each_refusal_has_a_sentence_of_its_own() {
-        let texts: BTreeSet<&str> = (1..=18).map(|number| refusal(number).text()).collect();
-        assert_eq!(texts.len(), 18);
+        let texts: BTreeSet<&str> = (1..=20).map(|number| refusal(number).text()).collect();
+        assert_eq!(texts.len(), 20);
         assert!(texts.iter().all(|text| !text.is_empty()));
     }
 

@@ -1,10 +1,10 @@
-//! The C header and this wrapper agree on the version, the offsets, and the refusals with their texts.
-use mpc106::{offset, Refusal, CELL_BYTES};
+//! The C header and this wrapper agree on the version, the offsets, the lengths, and the refusals with their texts.
+use mpc106::{offset, Refusal, CELL_BYTES, LINE_BYTES};
 
 const HEADER: &str = include_str!("../../include/mpc106.h");
 
 /// Each refusal with its name in C, by number.
-const REFUSALS: [(Refusal, &str); 17] = [
+const REFUSALS: [(Refusal, &str); 19] = [
     (Refusal::UnlistedOffset, "UNLISTED_OFFSET"),
     (Refusal::ReadOnly, "READ_ONLY"),
     (Refusal::ValueOutOfRange, "VALUE_OUT_OF_RANGE"),
@@ -22,6 +22,8 @@ const REFUSALS: [(Refusal, &str); 17] = [
     (Refusal::BankOff, "BANK_OFF"),
     (Refusal::RowOrColumnTooLarge, "ROW_OR_COLUMN_TOO_LARGE"),
     (Refusal::NoAddress, "NO_ADDRESS"),
+    (Refusal::Misaligned, "MISALIGNED"),
+    (Refusal::NotCacheLine, "NOT_CACHE_LINE"),
 ];
 
 /// The offsets with their names in C.
@@ -48,11 +50,14 @@ fn says(text: &str) {
 
 #[test]
 fn refusals_have_the_same_numbers() {
-    for (i, (refusal, name)) in REFUSALS.into_iter().enumerate() {
-        assert_eq!(usize::from(refusal.number()), i + 1);
+    // 18 is the line program's alone.
+    let numbers = (1..=17).chain(19..=20);
+    assert!(numbers.eq(REFUSALS.map(|(refusal, _)| refusal.number())));
+    for (refusal, name) in REFUSALS {
+        let number = refusal.number();
         assert!(
-            HEADER.contains(&format!("MPC106_{name} = {},", i + 1))
-                || HEADER.contains(&format!("MPC106_{name} = {} ", i + 1)),
+            HEADER.contains(&format!("MPC106_{name} = {number},"))
+                || HEADER.contains(&format!("MPC106_{name} = {number} ")),
             "{name}"
         );
     }
@@ -75,10 +80,11 @@ fn offsets_are_the_same() {
 }
 
 #[test]
-fn version_and_cells_are_the_same() {
+fn version_and_lengths_are_the_same() {
     let parts = ["MAJOR", "MINOR", "PATCH"];
     for (name, part) in parts.iter().zip(env!("CARGO_PKG_VERSION").split('.')) {
         says(&format!("#define MPC106_VERSION_{name} {part}\n"));
     }
     says(&format!("#define MPC106_CELL_BYTES {CELL_BYTES}\n"));
+    says(&format!("#define MPC106_LINE_BYTES {LINE_BYTES}\n"));
 }

@@ -1,16 +1,19 @@
 -- Memory calls, the accesses that they consist of, and what these give.
-use Prim.Native.Nat.{ℕ}
+use Prim.Native.Nat.{ℕ, _+_, _*_, _/_, _%_}
 use mathlib.Core.List.{List, [], _∷_}
+use lib.ListN.{take, drop}
 use Rattle.refusals.specs.Paper.{Outcome}
 use Rattle.calls.specs.declared.Kind.{Kind}
 
 -- MEM-1, MEM-2: a read has an address and a count, the length of its buffer; a write an address and bytes; a flip an address and a bit; a scrub an
--- address
+-- address. MEM-13, MEM-15: a burst read has what a read has, a burst write what a write has
 pub data MemoryCall : Type 0 where
   read : ℕ → ℕ → MemoryCall
   write : ℕ → List ℕ → MemoryCall
   flip : ℕ → ℕ → MemoryCall
   scrub : ℕ → MemoryCall
+  burstRead : ℕ → ℕ → MemoryCall
+  burstWrite : ℕ → List ℕ → MemoryCall
 
 -- MEM-1: an access, which stays inside one doubleword
 pub data Access : Type 0 where
@@ -26,12 +29,26 @@ addressOf (writeIn a bs) = a
 addressOf (flipIn a b) = a
 addressOf (scrubIn a) = a
 
--- MEM-1: the accesses of a call, in order; here each call is one access
+-- MEM-14: where beat i of a burst at the address a is; the burst wraps inside its cache line
+unfoldable pub beatAddress : ℕ → ℕ → ℕ
+beatAddress a i = 32 * (a / 32) + (a % 32 + 8 * i) % 32
+
+-- MEM-15: the bytes of beat i of a burst write
+abbrev pub beatBytes : List ℕ → ℕ → List ℕ
+beatBytes bs i = take 8 (drop (8 * i) bs)
+
+-- MEM-13: the beats of a burst, in order, each made from its number
+abbrev pub fourBeats : (ℕ → Access) → List Access
+fourBeats beat = beat 0 ∷ beat 1 ∷ beat 2 ∷ beat 3 ∷ []
+
+-- MEM-1: the accesses of a call, in order. MEM-13: those of a burst read or write the eight bytes of a doubleword
 unfoldable pub parts : MemoryCall → List Access
 parts (read a n) = readIn a n ∷ []
 parts (write a bs) = writeIn a bs ∷ []
 parts (flip a b) = flipIn a b ∷ []
 parts (scrub a) = scrubIn a ∷ []
+parts (burstRead a n) = fourBeats (λ i. readIn (beatAddress a i) 8)
+parts (burstWrite a bs) = fourBeats (λ i. writeIn (beatAddress a i) (beatBytes bs i))
 
 -- LIST-9: what an accepted access gives: its answer, and the bytes that a read puts in its buffer
 pub record Got : Type 0 where

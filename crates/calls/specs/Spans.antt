@@ -7,7 +7,7 @@ use lib.Dec.{ltb, eqb}
 use lib.ListN.{length, replicate}
 use Rattle.refusals.specs.Paper.{Declined, refuse, _else_}
 use Rattle.calls.specs.declared.Kind.the-variants.{NoBank}
-use Rattle.calls.specs.Calls.{MemoryCall, read, write, flip, scrub, Access, readIn, writeIn, flipIn, scrubIn, Got, got}
+use Rattle.calls.specs.Calls.{MemoryCall, read, write, flip, scrub, burstRead, burstWrite, Access, readIn, writeIn, flipIn, scrubIn, Got, got}
 
 -- FLAT-6: which addresses the spans of the enabled banks hold
 pub record Spans : Type 0 where
@@ -21,12 +21,18 @@ byCount a n = refuse (eqb n 0 || ltb 8 n) (6 ∷ []) else refuse (ltb 8 (a % 8 +
 unfoldable pub byBit : ℕ → Declined
 byBit b = refuse (ltb 71 b) (8 ∷ [])
 
--- FLAT-6: refusals 6, 7 and 8, by the arguments alone
+-- REF-19, REF-20: the address of a burst, and how many bytes it has
+unfoldable pub byLine : ℕ → ℕ → Declined
+byLine a n = refuse (not (eqb (a % 8) 0)) (19 ∷ []) else refuse (not (eqb n 32)) (20 ∷ [])
+
+-- FLAT-6: refusals 6, 7, 8, 19 and 20, by the arguments alone
 unfoldable pub byArguments : MemoryCall → Declined
 byArguments (read a n) = byCount a n
 byArguments (write a bs) = byCount a (length bs)
 byArguments (flip a b) = byBit b
 byArguments (scrub a) = none
+byArguments (burstRead a n) = byLine a n
+byArguments (burstWrite a bs) = byLine a (length bs)
 
 -- REF-10: a flip that selects no bank
 unfoldable pub bySpans : Spans → MemoryCall → Declined
@@ -34,6 +40,8 @@ bySpans spans (read a n) = none
 bySpans spans (write a bs) = none
 bySpans spans (flip a b) = refuse (not (spans .holds a)) (10 ∷ [])
 bySpans spans (scrub a) = none
+bySpans spans (burstRead a n) = none
+bySpans spans (burstWrite a bs) = none
 
 -- FLAT-6: the refusals that need neither record nor cells
 unfoldable pub byCall : Spans → MemoryCall → Declined

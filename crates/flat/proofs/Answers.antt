@@ -2,7 +2,7 @@
 use Prim.Native.Nat.{ℕ}
 use mathlib.Core.Path.{_≡_, refl}
 use mathlib.Core.Bool.{true}
-use mathlib.Core.List.{List, [], _∷_}
+use mathlib.Core.List.{List, [], _∷_, _++_}
 use mathlib.Core.Option.{Option, none, some}
 use lib.ListN.{replicate}
 use Rattle.basics.specs.Range.{firstOf, first, sum}
@@ -18,8 +18,8 @@ use Rattle.ecc.specs.Lending.{cellAt, putCell, isLent}
 use Rattle.error_registers.specs.Errors.{bitSet, undetected, withErrorAddress, detected, triggered, rose, counted, reported}
 use Rattle.calls.specs.declared.Kind.{Kind}
 use Rattle.calls.specs.declared.Kind.the-variants.{Clean, Corrected, Uncorrectable, Stored, NoBank, Flipped}
-use Rattle.calls.specs.Calls.{read, write, flip, scrub, parts, got, Given, Call, memory, readRegister, writeRegister}
-use Rattle.calls.specs.Spans.{Spans, byCount, byBit, byArguments, bySpans, byCall, missed}
+use Rattle.calls.specs.Calls.{read, write, flip, scrub, burstRead, burstWrite, beatAddress, parts, Got, got, Given, Call, memory, readRegister, writeRegister}
+use Rattle.calls.specs.Spans.{Spans, byCount, byBit, byLine, byArguments, bySpans, byCall, missed}
 use Rattle.calls.specs.State.{state}
 use Rattle.machine.specs.Cells.{merge, readCell, mergeCell, writeCell, scrubCell, onCell}
 use Rattle.machine.specs.Calls.{spansOf, unlentAt, unlent, refusal, onTarget, accessAt, access, accesses, performed, memoryCall}
@@ -42,17 +42,24 @@ declinedWith n = some (refused (n ∷ []))
 
 -- ---- lists for the counterexamples
 
+-- a doubleword of zeros, read
+abbrev zeros : Kind → Got
+zeros k = got k (replicate 8 0)
+
 abbrev pub readOnce : List Call
 readOnce = memory (read 0 1) ∷ []
 
--- two flips of a doubleword, and between them nothing that renews it: a read, a scrub of the next doubleword, a refused write
+-- two flips of a doubleword, and between them nothing that renews it: a read, a scrub of the next doubleword, a burst read, a refused write, a
+-- refused burst write
 abbrev pub flippedTwice : List Call
 flippedTwice =
     memory (scrub 0)
     ∷ memory (flip 0 0)
     ∷ memory (read 0 1)
     ∷ memory (scrub 8)
+    ∷ memory (burstRead 8 32)
     ∷ memory (write 0 [])
+    ∷ memory (burstWrite 4 (replicate 32 0))
     ∷ memory (flip 0 1)
     ∷ memory (read 0 1)
     ∷ []
@@ -64,7 +71,9 @@ flippedTwiceThen last =
     ∷ answered Flipped []
     ∷ answered Corrected (0 ∷ [])
     ∷ answered Clean []
+    ∷ some (given (zeros Clean ∷ zeros Clean ∷ zeros Clean ∷ zeros Corrected ∷ []))
     ∷ declinedWith 6
+    ∷ declinedWith 19
     ∷ answered Flipped []
     ∷ last
     ∷ []
@@ -82,11 +91,18 @@ flippedThenReadTwice = memory (flip 0 0) ∷ memory (read 0 1) ∷ memory (read 
 abbrev pub otherCell : List ℕ
 otherCell = encode columns (0x80 ∷ replicate 7 0)
 
--- ---- one long list: full and short writes, reads, flips of data and check bits, scrubs, no bank, refusals 6, 7, 8 and 10, and register
--- calls, some of them refused with 1 and 2
+-- ---- one long list: full and short writes, reads, flips of data and check bits, scrubs, bursts, no bank, refusals 6, 7, 8, 10, 19 and 20, and
+-- register calls, some of them refused with 1 and 2. Between the flips of bits 63 and 1 at 10 stands a burst write that starts at 18
 
 abbrev outside : ℕ
 outside = 0x00100000
+
+-- the bytes of a burst write: eight of each number, in the order of the beats
+abbrev line : List ℕ
+line = replicate 8 1 ++ replicate 8 2 ++ replicate 8 3 ++ replicate 8 4
+
+abbrev ones : Got
+ones = got NoBank (replicate 8 0xFF)
 
 -- each call beside its answer
 abbrev longSteps : List (Call × Option Given)
@@ -120,6 +136,21 @@ longSteps =
     ∷ (writeRegister 0xC8 1, none)
     ∷ (writeRegister 0xC1 0xFF, none)
     ∷ (memory (read 0x00 8), answered Clean (replicate 8 0))
+    ∷ (memory (flip 0x18 9), answered Flipped [])
+    ∷ (
+      memory (burstRead 0x10 32),
+      some (given (got Corrected (0x80 ∷ 1 ∷ 0xAB ∷ 0xCD ∷ 4 ∷ 5 ∷ 6 ∷ 7 ∷ []) ∷ zeros Corrected ∷ zeros Clean ∷ got Clean (replicate 7 0xFF ++ 0 ∷ []) ∷ [])),
+    )
+    ∷ (memory (burstWrite 0x18 line), some (given (got Stored [] ∷ got Stored [] ∷ got Stored [] ∷ got Stored [] ∷ [])))
+    ∷ (memory (flip 0x10 1), answered Flipped [])
+    ∷ (
+      memory (burstRead 0x08 32),
+      some (given (got Clean (replicate 8 3) ∷ got Corrected (replicate 8 4) ∷ got Clean (replicate 8 1) ∷ got Clean (replicate 8 2) ∷ [])),
+    )
+    ∷ (memory (burstRead 0x0C 31), declinedWith 19)
+    ∷ (memory (burstRead 0x08 31), declinedWith 20)
+    ∷ (memory (burstWrite 0x08 []), declinedWith 20)
+    ∷ (memory (burstRead outside 32), some (given (ones ∷ ones ∷ ones ∷ ones ∷ [])))
     ∷ []
 
 abbrev pub callsOf : List (Call × Option Given) → List Call
@@ -159,8 +190,8 @@ pub record Computed : Type 0 where
   pub once-off-flat : flatRun (spansOf (setupOf bankOff)) blank readOnce .0 ≡ answered Clean (0 ∷ []) ∷ []
   pub once-off-cells : (cells : List ℕ) → run columns (state bankOff cells) readOnce .0 ≡ declinedWith 5 ∷ []
   -- two flips with no write or scrub of the doubleword between
-  pub twice-reached : Reached (replicate 18 0) flippedTwice
-  pub twice-cells : cellsAnswer (replicate 18 0) flippedTwice ≡ flippedTwiceThen (answered Uncorrectable (0xC0 ∷ []))
+  pub twice-reached : Reached (replicate 36 0) flippedTwice
+  pub twice-cells : cellsAnswer (replicate 36 0) flippedTwice ≡ flippedTwiceThen (answered Uncorrectable (0xC0 ∷ []))
   pub twice-flat : flatRun spans blank flippedTwice .0 ≡ flippedTwiceThen (answered Corrected (0 ∷ []))
   -- memory is switched off, and a read
   pub off-spaced : isSpaced spans switchedOff ≡ true
@@ -180,16 +211,16 @@ pub record Computed : Type 0 where
   -- the long list
   pub long-registers : allAtErrorRegisters longList ≡ true
   pub long-spaced : isSpaced spans longList ≡ true
-  pub long-reached : Reached (replicate 27 0) longList
-  pub long-cells : cellsAnswer (replicate 27 0) longList ≡ longAnswers
+  pub long-reached : Reached (replicate 36 0) longList
+  pub long-cells : cellsAnswer (replicate 36 0) longList ≡ longAnswers
   pub long-flat : flatRun spans blank longList .0 ≡ longAnswers
 
 pub computed : Computed
 unfolding bankOff bankOn startOf lastOf enabledOf rowBits megabytes fits columnBits enabledBank bankOf setupOf firstOf first sum lowest inverted tooLong
     faulty faultOf meets meetsLower lowestMeeting judged ready notReady holds bankAt cells cellInBank rowOf columnOf share cellsBelow placeOf inSpan located
     cellOf listed readOnly badValue locked clearing switchesOn declined newByte written bitAt dataBit flipColumn xorOf checkOf syndromeOf bitReading readingOf
-    maskOf flipBit encode rightBy cellReading loadOf cellAt putCell isLent bitSet undetected withErrorAddress detected triggered rose counted reported parts byCount
-    byBit byArguments bySpans byCall missed merge readCell mergeCell writeCell scrubCell onCell unlentAt unlent refusal onTarget accessAt access accesses
+    maskOf flipBit encode rightBy cellReading loadOf cellAt putCell isLent bitSet undetected withErrorAddress detected triggered rose counted reported beatAddress parts byCount
+    byBit byLine byArguments bySpans byCall missed merge readCell mergeCell writeCell scrubCell onCell unlentAt unlent refusal onTarget accessAt access accesses
     performed memoryCall call run blank withBytes withMark flatInSpan flatAccess flatAccesses flatPerformed flatCall flatRun acceptedOf flips renews anyOf
     reach reachOf reachAll slipping octet isAtErrorRegisters allAtErrorRegisters renewedBefore eachRenewed isSpaced
 computed =

@@ -1,11 +1,12 @@
 -- The comparison of a list with the flat machine.
-use Prim.Native.Nat.{ℕ, _/_}
+use Prim.Native.Nat.{ℕ, _+_, _/_, _%_, _≤_, _<_}
 use mathlib.Core.Path.{_≡_, refl, sym, ap, ap₂, _∙_}
 use mathlib.Core.Bool.{true}
 use mathlib.Core.Option.{Option, none, some}
 use mathlib.Core.List.{List, [], _∷_, _++_}
+use native.Mathlib.Omega.{arith}
 use lib.ListN.{length, replicate}
-use Rattle.refusals.specs.Paper.{Declined, _else_, given}
+use Rattle.refusals.specs.Paper.{Declined, given}
 use Rattle.refusals.proofs.ChainLaws.{else-none, else-left}
 use Rattle.registers.specs.declared.Registers.{Registers}
 use Rattle.banks.specs.Setup.{Setup, setupOf}
@@ -15,10 +16,11 @@ use Rattle.banks.proofs.MapLaws.{isSome, MapLaws, map-laws}
 use Rattle.register_calls.proofs.SwitchLaws.{setup-written, ready-written}
 use Rattle.ecc.specs.Columns.{columns, accepted}
 use Rattle.ecc.proofs.ColumnLaws.{columns-accepted}
-use Rattle.calls.specs.Calls.{MemoryCall, read, write, flip, scrub, Access, addressOf, parts, Got, Given, Call, memory, readRegister, writeRegister}
+use Rattle.calls.specs.Calls.{MemoryCall, read, write, flip, scrub, burstRead, burstWrite, Access, addressOf, beatAddress, beatBytes, parts, Got, Given, Call, memory, readRegister, writeRegister}
 use Rattle.calls.specs.Spans.{Spans, byArguments, bySpans, byCall}
 use Rattle.calls.specs.State.{State, state}
-use Rattle.calls.proofs.SpanLaws.{count-fits, bit-fits}
+use Rattle.calls.proofs.SpanLaws.{count-fits, bit-fits, line-fits}
+use Rattle.calls.proofs.BeatLaws.{beat-aligned, beat-length}
 use Rattle.machine.specs.Calls.{spansOf, unlentAt, unlent, refusal, access, accesses, performed, memoryCall}
 use Rattle.call_lists.specs.Lists.{call, run}
 use Rattle.flat.specs.Flat.{Flat, blank, flatAccess, flatAccesses, flatPerformed, flatCall, flatRun}
@@ -34,6 +36,13 @@ arguments-allowed (read a n) e = (count-fits a n e, tt)
 arguments-allowed (write a bs) e = (count-fits a (length bs) e, tt)
 arguments-allowed (flip a b) e = (bit-fits b e, tt)
 arguments-allowed (scrub a) e = (tt, tt)
+arguments-allowed (burstRead a n) e =
+    let beat : (i : ℕ) → beatAddress a i % 8 + 8 ≤ 8 = λ i. omega (arith, beat-aligned a i (line-fits a n e .0)) in
+    (beat 0, (beat 1, (beat 2, (beat 3, tt))))
+arguments-allowed (burstWrite a bs) e =
+    let h = line-fits a (length bs) e in
+    let beat : (i : ℕ) → i < 4 → beatAddress a i % 8 + length (beatBytes bs i) ≤ 8 = λ i l. omega (arith, beat-aligned a i (h .0), beat-length bs i (h .1) l) in
+    (beat 0 (omega arith), (beat 1 (omega arith), (beat 2 (omega arith), (beat 3 (omega arith), tt))))
 
 all-allowed : (spans : Spans) (c : MemoryCall) → byCall spans c ≡ none → All Allowed (parts c)
 unfolding byCall

@@ -79,8 +79,8 @@ pub spacing-needed :
     → SameAnswers (state r (replicate lent 0)) cs)
     → ⊥
 spacing-needed claim =
-    differ (lent-enough 18 (omega arith) flippedTwice (computed .twice-reached) (computed .twice-cells)) (computed .twice-flat)
-    (claim bankOn switched-on enough on-enough flippedTwice (tt, (tt, (tt, (tt, (tt, (tt, (tt, tt)))))))) (λ z. let k = kind-at 6 z in never (cc))
+    differ (lent-enough 36 (omega arith) flippedTwice (computed .twice-reached) (computed .twice-cells)) (computed .twice-flat)
+    (claim bankOn switched-on enough on-enough flippedTwice (tt, (tt, (tt, (tt, (tt, (tt, (tt, (tt, (tt, tt)))))))))) (λ z. let k = kind-at 8 z in never (cc))
 
 -- a register call elsewhere: memory is switched off, and the flat machine has no refusal 5
 pub error-registers-needed :

@@ -29,6 +29,6 @@ example-list lent h =
       switched = switched-on;
       at-error-registers = all-at-error-registers longList (computed .long-registers);
       flips-spaced = spaced spans longList (computed .long-spaced);
-      cells = run-zeros columns bankOn longList 27 lent (omega arith) (computed .long-reached) ∙ computed .long-cells;
+      cells = run-zeros columns bankOn longList 36 lent (omega arith) (computed .long-reached) ∙ computed .long-cells;
       flat = computed .long-flat;
     }

@@ -11,7 +11,7 @@ use borrow.Author.Tests.{eqb-true, eqb-false, eq-eqb}
 use Rattle.basics.proofs.Bools.{and-right, or-left, or-right}
 use Rattle.basics.proofs.RangeLaws.{byCases, contra}
 use Rattle.refusals.specs.Paper.{Declined}
-use Rattle.calls.specs.Calls.{MemoryCall, read, write, flip, scrub, Access, readIn, writeIn, flipIn, scrubIn, addressOf, parts}
+use Rattle.calls.specs.Calls.{MemoryCall, read, write, flip, scrub, burstRead, burstWrite, Access, readIn, writeIn, flipIn, scrubIn, addressOf, parts}
 use Rattle.calls.specs.Calls.{Call, memory, readRegister, writeRegister}
 use Rattle.calls.specs.Spans.{Spans, byCall, missed}
 use Rattle.flat.specs.Flat.{Flat, withMark, flatInSpan, flatAccess, blank}
@@ -46,14 +46,16 @@ skip q (x ∷ xs) ys n k = go (renews q x) refl (skip q xs ys (or-right (flips q
     go true e more = refl
     go false e more = rw (or-left (flips q x) (anyOf (flips q) xs) n) (more (λ m. k (rw e m)))
 
--- a call flips in its last access or not at all
+-- a call flips in its last access or not at all; a burst never does
 apart-parts : (c : MemoryCall) (ys : List Access) → Apart ys → ((q : ℕ) → anyOf (flips q) (parts c) ≡ true → renewedFirst q ys ≡ true)
     → Apart (parts c ++ ys)
-unfolding parts anyOf
+unfolding parts anyOf flips
 apart-parts (read a n) ys rest k = (λ q t. k q (rw t), rest)
 apart-parts (write a bs) ys rest k = (λ q t. k q (rw t), rest)
 apart-parts (flip a b) ys rest k = (λ q t. k q (rw t), rest)
 apart-parts (scrub a) ys rest k = (λ q t. k q (rw t), rest)
+apart-parts (burstRead a n) ys rest k = (λ q t. contra t refl, (λ q t. contra t refl, (λ q t. contra t refl, (λ q t. contra t refl, rest))))
+apart-parts (burstWrite a bs) ys rest k = (λ q t. contra t refl, (λ q t. contra t refl, (λ q t. contra t refl, (λ q t. contra t refl, rest))))
 
 module _ (spans : Spans) where
   -- at some place before the next flip of q it takes a write or a scrub

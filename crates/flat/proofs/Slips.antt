@@ -4,7 +4,7 @@ use mathlib.Core.Path.{_≡_, refl, ap}
 use mathlib.Core.Option.{Option, none, some}
 use mathlib.Core.List.{List, [], _∷_}
 use Rattle.ecc.specs.CheckCode.{flipBit}
-use Rattle.calls.specs.Calls.{read, write, flip, scrub, Given, Call, memory, readRegister, writeRegister}
+use Rattle.calls.specs.Calls.{read, write, flip, scrub, burstRead, burstWrite, Given, Call, memory, readRegister, writeRegister}
 use Rattle.calls.specs.Spans.{Spans}
 use Rattle.flat.specs.Flat.{Flat, withBytes, withMark, flatCall, flatRun}
 use Rattle.flat.proofs.Octets.{octet}
@@ -29,12 +29,14 @@ no-slip spans f (c ∷ cs) = ap (flatCall spans f c .0 ∷_) (no-slip spans (fla
 abbrev pub writeDropped : Slip
 writeDropped c before after = record { byte = before .byte; mark = after .mark }
 
--- the doubleword that a call reads
+-- the doubleword that a single read reads
 abbrev pub readBy : Call → Option ℕ
 readBy (memory (read a n)) = some (a / 8)
 readBy (memory (write a bs)) = none
 readBy (memory (flip a b)) = none
 readBy (memory (scrub a)) = none
+readBy (memory (burstRead a n)) = none
+readBy (memory (burstWrite a bs)) = none
 readBy (readRegister o) = none
 readBy (writeRegister o v) = none
 

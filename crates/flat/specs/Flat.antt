@@ -54,7 +54,7 @@ flatInSpan f (scrubIn a) = (got (byMark (f .mark (a / 8))) [], record { byte = f
 unfoldable pub flatAccess : Spans → Flat → Access → Got × Flat
 flatAccess spans f x = cond (spans .holds (addressOf x)) (flatInSpan f x) (missed x, f)
 
--- accesses, one after the other
+-- FLAT-9: accesses, one after the other
 unfoldable pub flatAccesses : Spans → Flat → List Access → List Got × Flat
 flatAccesses spans f [] = ([], f)
 flatAccesses spans f (x ∷ xs) =

@@ -13,7 +13,7 @@ use Rattle.basics.proofs.Bools.{or-right}
 use Rattle.refusals.specs.Paper.{Declined, refuse, Outcome, refused, given}
 use Rattle.refusals.proofs.ChainLaws.{else-left, else-right, cause-fails}
 use Rattle.register_calls.specs.Calls.{readAt, declined}
-use Rattle.calls.specs.Calls.{MemoryCall, read, write, flip, scrub, readIn, parts, Call, memory, readRegister, writeRegister}
+use Rattle.calls.specs.Calls.{MemoryCall, read, write, flip, scrub, burstRead, burstWrite, readIn, parts, Call, memory, readRegister, writeRegister}
 use Rattle.calls.specs.Spans.{byCall, byArguments, byCount, bySpans, missed}
 use Rattle.calls.specs.State.{State}
 use Rattle.calls.specs.Answers.{effectOf}
@@ -71,6 +71,8 @@ module _ (cols : List ℕ) (st : State) where
   call-few (write a bs) none e = omega arith
   call-few (flip a b) none e = omega arith
   call-few (scrub a) none e = omega arith
+  call-few (burstRead a n) none e = omega arith
+  call-few (burstWrite a bs) none e = omega arith
 
   orMalformed-few : (o : Option Call) → length (orMalformed cols st o .0) ≤ longestOutputLine
   unfolding orMalformed callOf called memoryCall malformedText

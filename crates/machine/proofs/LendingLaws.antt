@@ -59,7 +59,7 @@ longer more st = state (st .registers) (st .cells ++ more)
 abbrev pub beside : {A : Type 0} → List ℕ → A × State → A × State
 beside more p = (p .0, longer more (p .1))
 
-lent-of : (cells : List ℕ) (k : ℕ) → unlentAt (some k) cells ≡ none → isLent cells k ≡ true
+pub lent-of : (cells : List ℕ) (k : ℕ) → unlentAt (some k) cells ≡ none → isLent cells k ≡ true
 unfolding unlentAt
 lent-of cells k e = not-of (isLent cells k) (cause-fails (not (isLent cells k)) (9 ∷ []) e)
 

@@ -1,3 +1,4 @@
 pub mod SetupLaws
 pub mod LendingLaws
 pub mod FlipLaws
+pub mod InTurnLaws

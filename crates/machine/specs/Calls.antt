@@ -10,7 +10,7 @@ use Rattle.banks.specs.Judge.{notReady}
 use Rattle.banks.specs.Map.{inSpan, cellOf}
 use Rattle.ecc.specs.Lending.{cellAt, putCell, isLent}
 use Rattle.error_registers.specs.Errors.{reported}
-use Rattle.calls.specs.Calls.{MemoryCall, read, write, flip, scrub, Access, addressOf, parts, Got, Given}
+use Rattle.calls.specs.Calls.{MemoryCall, read, write, flip, scrub, burstRead, burstWrite, Access, addressOf, parts, Got, Given}
 use Rattle.calls.specs.Spans.{Spans, byCall, missed}
 use Rattle.calls.specs.State.{State, state}
 use Rattle.calls.specs.Answers.{Effect, effectOf}
@@ -34,7 +34,7 @@ unfoldable pub unlent : State → List Access → Declined
 unlent st [] = none
 unlent st (x ∷ xs) = unlentAt (cellOf (setup st) (addressOf x)) (st .cells) else unlent st xs
 
--- REF-102, REF-104: 5; then 6, 7, 8 and 10; then 9
+-- REF-102, REF-104: 5; then 6, 7, 8, 10, 19 and 20; then 9. MEM-16: all of it before the first access
 unfoldable pub refusal : State → MemoryCall → Declined
 refusal st c = notReady (setup st) else byCall (spansOf (setup st)) c else unlent st (parts c)
 
@@ -97,3 +97,11 @@ module _ (cols : List ℕ) (st : State) where
   -- MEM-8: a scrub
   abbrev pub scrubCall : ℕ → Effect
   scrubCall a = called (scrub a) []
+
+  -- MEM-13: a burst read
+  abbrev pub burstReadCall : ℕ → List ℕ → Effect
+  burstReadCall a buffer = called (burstRead a (length buffer)) buffer
+
+  -- MEM-13: a burst write
+  abbrev pub burstWriteCall : ℕ → List ℕ → Effect
+  burstWriteCall a bs = called (burstWrite a bs) []

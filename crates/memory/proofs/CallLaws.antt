@@ -1,6 +1,6 @@
 -- What a call of one access comes to, by its refusal and by what the access gives.
 use Prim.Native.Nat.{ℕ}
-use mathlib.Core.Path.{_≡_, refl, sym, ap, _∙_}
+use mathlib.Core.Path.{_≡_, refl, sym, _∙_}
 use mathlib.Core.Bool.{not}
 use mathlib.Core.Option.{Option, none, some}
 use mathlib.Core.List.{List, [], _∷_, append-nil}
@@ -14,10 +14,10 @@ use Rattle.banks.specs.Judge.{notReady}
 use Rattle.banks.specs.Map.{inSpan, located, cellOf}
 use Rattle.banks.proofs.MapLaws.{isSome}
 use Rattle.calls.specs.declared.Kind.{Kind}
-use Rattle.calls.specs.Calls.{MemoryCall, read, write, flip, scrub, Access, readIn, writeIn, flipIn, scrubIn, addressOf, parts, Got, got}
+use Rattle.calls.specs.Calls.{MemoryCall, read, write, flip, scrub, Access, readIn, writeIn, flipIn, scrubIn, addressOf, parts, got}
 use Rattle.calls.specs.Spans.{byCount, byBit, byArguments, bySpans, byCall}
 use Rattle.calls.specs.State.{State, state}
-use Rattle.calls.specs.Answers.{Effect, effectOf}
+use Rattle.calls.specs.Answers.{Effect}
 use Rattle.error_registers.specs.Errors.{reported}
 use Rattle.machine.specs.Calls.{setup, spansOf, unlentAt, unlent, refusal, onTarget, accessAt, access, accesses, performed, memoryCall, called}
 use Rattle.memory.specs.CodeJudged.{judgedAt}

@@ -27,7 +27,12 @@ use calls::Kind;
 use correction::Loaded;
 use ecc::Reading;
 
-fn kind_of(reading: Reading) -> Kind
+// No columns are lent, so those of the check code are the columns of ECC-2.
+pub(crate) const LENT: bool = false;
+
+pub(crate) const NO_COLUMNS: [u8; 0] = [];
+
+pub(crate) fn kind_of(reading: Reading) -> Kind
     ensures { λ k. ⌜ k ≡ answerOf reading ⌝ }
 {
     match reading {
@@ -59,7 +64,7 @@ fn is_corrected(reading: Reading) -> bool
 }
 
 // The syndrome of cell k.
-fn syndrome_at(lent: bool, columns: &[u8], cells: &[u8], k: usize) -> u8
+pub(crate) fn syndrome_at(lent: bool, columns: &[u8], cells: &[u8], k: usize) -> u8
     requires { ⌜ isLent (now cells) k ≡ true ⌝ }
     ensures { λ s. ⌜ s ≡ syndromeOf (columnsFor lent (now (columns .entry))) (cellAt (now (cells .entry)) k) ⌝ }
 {
@@ -68,14 +73,21 @@ fn syndrome_at(lent: bool, columns: &[u8], cells: &[u8], k: usize) -> u8
 }
 
 // What cell k gives, if s is its syndrome.
-fn load(lent: bool, columns: &[u8], cells: &[u8], k: usize, s: u8) -> Loaded
+pub(crate) fn load(lent: bool, columns: &[u8], cells: &[u8], k: usize, s: u8) -> Loaded
     requires { ⌜ (isLent (now cells) k ≡ true) × (s ≡ syndromeOf (columnsFor lent (now columns)) (cellAt (now cells) k)) ⌝ }
     ensures { λ x. ⌜ decodedOf x ≡ loadOf (columnsFor lent (now (columns .entry))) (cellAt (now (cells .entry)) k) ⌝ }
 {
     correction::correct(lent, columns, doubleword_at(cells, k), s)
 }
 
-fn store_if(wanted: bool, lent: bool, columns: &[u8], cells: &mut [u8], k: usize, doubleword: u64)
+pub(crate) fn store_if(
+    wanted: bool,
+    lent: bool,
+    columns: &[u8],
+    cells: &mut [u8],
+    k: usize,
+    doubleword: u64,
+)
     requires { ⌜ isLent (now cells) k ≡ true ⌝ }
     ensures { λ _. ⌜ now (cells .exit) ≡ cond wanted (putCell (now (cells .entry)) k (encode (columnsFor lent (now (columns .entry))) (bytesOfNumber doubleword))) (now (cells .entry)) ⌝ }
 {

@@ -1,5 +1,6 @@
 // Copies bytes between a doubleword, a number with byte 0 lowest, and the slice that a caller lends.
 ghost use mathlib.Core.Path.{_≡_};
+ghost use mathlib.Core.List.{[], _++_};
 ghost use Prim.Native.Nat.{_+_, _≤_, _<_};
 ghost use lib.ListN.{length, getD, set, take, drop};
 ghost use Rattle.ecc.specs.Doubleword.{bytesOfNumber};
@@ -35,6 +36,17 @@ fn copy_all(doubleword: u64, buffer: &mut [u8])
     buffer[5] = bytes[5];
     buffer[6] = bytes[6];
     buffer[7] = bytes[7];
+}
+
+// MEM-15: fills the buffer of a burst with four doublewords.
+pub(crate) fn copy_line(first: u64, second: u64, third: u64, fourth: u64, buffer: &mut [u8])
+    requires { ⌜ length (now buffer) ≡ 32 ⌝ }
+    ensures { λ _. ⌜ now (buffer .exit) ≡ bytesOfNumber first ++ (bytesOfNumber second ++ (bytesOfNumber third ++ (bytesOfNumber fourth ++ []))) ⌝ }
+{
+    copy_all(first, &mut buffer[0..8]);
+    copy_all(second, &mut buffer[8..16]);
+    copy_all(third, &mut buffer[16..24]);
+    copy_all(fourth, &mut buffer[24..32]);
 }
 
 // Fills the buffer from byte `offset` of the doubleword on; eight bytes need no loop.

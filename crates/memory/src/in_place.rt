@@ -9,6 +9,8 @@ ghost use Rattle.calls.specs.State.{state};
 ghost use Rattle.calls.specs.Answers.{paperAnswer, leaves};
 ghost use Rattle.machine.specs.Calls.{readCall, writeCall, flipCall, scrubCall};
 use crate::access;
+use crate::access::LENT;
+use crate::access::NO_COLUMNS;
 use crate::bytes::copy_out;
 use crate::judge::Judged;
 use crate::judge::judge;
@@ -22,12 +24,7 @@ use refusals::Refusal;
 use refusals::Verdict;
 use registers::Registers;
 
-// No columns are lent, so those of the check code are the columns of ECC-2.
-const LENT: bool = false;
-
-const NO_COLUMNS: [u8; 0] = [];
-
-fn refuse(x: Refusal) -> Answer
+pub(crate) fn refuse(x: Refusal) -> Answer
     ensures { λ a. ⌜ paperAnswer a ≡ refused (paper x) ⌝ }
 {
     Answer {

@@ -1,11 +1,16 @@
-// Memory calls over a record and cells that are lent: read, write, flip and scrub in place. A call is judged first; only then is its access
-// performed and the answer reported to the error registers.
+// Memory calls over a record and cells that are lent: read, write, flip, scrub and bursts in place. A call is judged first; only then are its
+// accesses performed, and the answer of each reported to the error registers.
 mod access;
+mod beats;
+mod burst_read;
+mod burst_write;
 mod bytes;
 mod in_place;
 mod judge;
 mod lent;
 
+pub use burst_read::burst_read_in_place;
+pub use burst_write::burst_write_in_place;
 pub use in_place::flip_in_place;
 pub use in_place::read_in_place;
 pub use in_place::scrub_in_place;

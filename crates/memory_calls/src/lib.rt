@@ -1,10 +1,10 @@
-// Memory calls with the record by value, passed in and returned (FORM-1): read, write, flip and scrub.
+// Memory calls with the record by value, passed in and returned (FORM-1): read, write, flip, scrub, burst read and burst write.
 ghost use mathlib.Core.Path.{_≡_};
 ghost use mathlib.Core.List.{[]};
 ghost use Rattle.ecc.specs.Columns.{columns};
 ghost use Rattle.calls.specs.State.{state};
 ghost use Rattle.calls.specs.Answers.{leaves};
-ghost use Rattle.machine.specs.Calls.{readCall, writeCall, flipCall, scrubCall};
+ghost use Rattle.machine.specs.Calls.{readCall, writeCall, flipCall, scrubCall, burstReadCall, burstWriteCall};
 use calls::Answer;
 use registers::Registers;
 
@@ -56,6 +56,30 @@ pub fn scrub(registers: Registers, cells: &mut [u8], address: u32) -> Called
     let answer = memory::scrub_in_place(&mut after_scrub, cells, address);
     Called {
         registers: Registers { bytes: after_scrub },
+        answer: answer,
+    }
+}
+
+// MEM-13: a burst read of a cache line.
+pub fn burst_read(registers: Registers, cells: &[u8], address: u32, buffer: &mut [u8]) -> Called
+    ensures { λ x. ⌜ leaves (x .answer) (state (x .registers) (now (cells .entry))) (now (buffer .exit)) ≡ burstReadCall columns (state registers (now (cells .entry))) address (now (buffer .entry)) ⌝ }
+{
+    let mut after_fill = registers.bytes;
+    let answer = memory::burst_read_in_place(&mut after_fill, cells, address, buffer);
+    Called {
+        registers: Registers { bytes: after_fill },
+        answer: answer,
+    }
+}
+
+// MEM-13: a burst write of a cache line.
+pub fn burst_write(registers: Registers, cells: &mut [u8], address: u32, bytes: &[u8]) -> Called
+    ensures { λ x. ⌜ leaves (x .answer) (state (x .registers) (now (cells .exit))) [] ≡ burstWriteCall columns (state registers (now (cells .entry))) address (now (bytes .entry)) ⌝ }
+{
+    let mut after_push = registers.bytes;
+    let answer = memory::burst_write_in_place(&mut after_push, cells, address, bytes);
+    Called {
+        registers: Registers { bytes: after_push },
         answer: answer,
     }
 }

@@ -13,7 +13,7 @@ ghost use Rattle.alike.specs.Alike.{compared};
 ghost use Rattle.register_calls.specs.Calls.{readAt, writeAt};
 ghost use Rattle.ecc.specs.Columns.{columns};
 ghost use Rattle.calls.specs.State.{state};
-ghost use Rattle.machine.specs.Calls.{readCall, writeCall, flipCall, scrubCall};
+ghost use Rattle.machine.specs.Calls.{readCall, writeCall, flipCall, scrubCall, burstReadCall, burstWriteCall};
 ghost use Rattle.results.specs.Results.{resultOfVerdict, returned};
 ghost use Rattle.mpc106.specs.Given.{single, truth, placeNumbers, writeResult};
 ghost use Rattle.mpc106.specs.MemoryResults.{memoryResult, resultOfCall, flipResult};
@@ -206,5 +206,33 @@ pub extern "C" fn mpc106_raw_scrub(
     ensures { λ n. ⌜ memoryResult n (state (recordOf (now (registers .exit))) (now (cells .exit))) [] (now (answer .exit)) ≡ resultOfCall (scrubCall columns (state (recordOf (now (registers .entry))) (now (cells .entry))) address) (now (answer .entry)) ⌝ }
 {
     let given = memory::scrub_in_place(registers, cells, address);
+    results::give_answer(given, answer)
+}
+
+#[no_mangle]
+pub extern "C" fn mpc106_raw_burst_read(
+    registers: &mut [u8; 256],
+    cells: &[u8],
+    address: u32,
+    buffer: &mut [u8],
+    answer: &mut [u32; 5],
+) -> u32
+    ensures { λ n. ⌜ memoryResult n (state (recordOf (now (registers .exit))) (now (cells .entry))) (now (buffer .exit)) (now (answer .exit)) ≡ resultOfCall (burstReadCall columns (state (recordOf (now (registers .entry))) (now (cells .entry))) address (now (buffer .entry))) (now (answer .entry)) ⌝ }
+{
+    let given = memory::burst_read_in_place(registers, cells, address, buffer);
+    results::give_answer(given, answer)
+}
+
+#[no_mangle]
+pub extern "C" fn mpc106_raw_burst_write(
+    registers: &mut [u8; 256],
+    cells: &mut [u8],
+    address: u32,
+    bytes: &[u8],
+    answer: &mut [u32; 5],
+) -> u32
+    ensures { λ n. ⌜ memoryResult n (state (recordOf (now (registers .exit))) (now (cells .exit))) [] (now (answer .exit)) ≡ resultOfCall (burstWriteCall columns (state (recordOf (now (registers .entry))) (now (cells .entry))) address (now (bytes .entry))) (now (answer .entry)) ⌝ }
+{
+    let given = memory::burst_write_in_place(registers, cells, address, bytes);
     results::give_answer(given, answer)
 }

@@ -6,7 +6,7 @@ use lib.ListN.{getD}
 use Rattle.refusals.specs.Paper.{Declined, Outcome, refused, given}
 use Rattle.calls.specs.declared.Kind.{Kind}
 use Rattle.calls.specs.declared.Kind.the-variants.{Clean, Corrected, Uncorrectable, Stored, NoBank, Flipped}
-use Rattle.calls.specs.Calls.{MemoryCall, read, write, flip, scrub}
+use Rattle.calls.specs.Calls.{MemoryCall, read, write, flip, scrub, burstRead, burstWrite}
 use Rattle.print.specs.Digits.{hexPair, hexPairs, decimal}
 
 -- LINE-12: the letter and the number of the refusal; the bank of 12 to 14 is left out
@@ -48,12 +48,14 @@ kindLetter Stored = 0x70
 kindLetter NoBank = 0x65
 kindLetter Flipped = 0x66
 
--- LINE-4 to LINE-6: the letter of a memory call
+-- LINE-4 to LINE-6: the letter of a memory call. No line asks for a burst, so that of a burst is never printed
 abbrev pub letterOf : MemoryCall → ℕ
 letterOf (read a n) = 0x72
 letterOf (write a bs) = 0x77
 letterOf (flip a b) = 0x66
 letterOf (scrub a) = 0x73
+letterOf (burstRead a n) = 0x72
+letterOf (burstWrite a bs) = 0x77
 
 -- LINE-14: the answer of each access of a call, in order
 abbrev pub kindsText : List Kind → List ℕ
@@ -64,12 +66,14 @@ kindsText (k ∷ ks) = 0x2C ∷ kindLetter k ∷ kindsText ks
 abbrev pub kindsAndBytesText : List ℕ → List Kind → List ℕ
 kindsAndBytesText bs ks = kindsText ks ++ 0x2C ∷ hexPairs bs
 
--- LINE-13, LINE-14: what follows the 0 of an accepted memory call
+-- LINE-13, LINE-14: what follows the 0 of an accepted memory call; of a burst nothing is ever printed
 unfoldable pub answerText : MemoryCall → List ℕ → List Kind → List ℕ
 answerText (read a n) bs ks = kindsAndBytesText bs ks
 answerText (write a ws) bs ks = kindsText ks
 answerText (flip a b) bs ks = []
 answerText (scrub a) bs ks = kindsText ks
+answerText (burstRead a n) bs ks = []
+answerText (burstWrite a ws) bs ks = []
 
 -- LINE-12: a memory call
 unfoldable pub callText : MemoryCall → Outcome (List Kind) → List ℕ → List ℕ

@@ -6,11 +6,11 @@ use mathlib.Core.List.{List, [], _∷_}
 use Rattle.refusals.specs.declared.Refusal.{Refusal}
 use Rattle.refusals.specs.declared.Refusal.the-variants.{UnlistedOffset, ReadOnly, ValueOutOfRange, LockedWhileOn, NotReady, CountOutOfRange}
 use Rattle.refusals.specs.declared.Refusal.the-variants.{CrossesDoubleword, BitOutOfRange, NotLent, FlipWithoutBank, NoBankEnabled, StartAboveEnd}
-use Rattle.refusals.specs.declared.Refusal.the-variants.{TooLong, Overlap, BankOff, RowOrColumnTooLarge, NoAddress, MalformedLine}
+use Rattle.refusals.specs.declared.Refusal.the-variants.{TooLong, Overlap, BankOff, RowOrColumnTooLarge, NoAddress, MalformedLine, Misaligned, NotCacheLine}
 use Rattle.refusals.specs.declared.Verdict.{Verdict}
 use Rattle.refusals.specs.declared.Verdict.the-variants.{Accepted, Refused}
 
--- REF-1 to REF-18, FORM-7: the number of a refusal, and for 12 to 14 the bank
+-- REF-1 to REF-20, FORM-7: the number of a refusal, and for 12 to 14 the bank
 abbrev pub paper : Refusal → List ℕ
 paper UnlistedOffset = 1 ∷ []
 paper ReadOnly = 2 ∷ []
@@ -30,6 +30,8 @@ paper BankOff = 15 ∷ []
 paper RowOrColumnTooLarge = 16 ∷ []
 paper NoAddress = 17 ∷ []
 paper MalformedLine = 18 ∷ []
+paper Misaligned = 19 ∷ []
+paper NotCacheLine = 20 ∷ []
 
 -- what a refused call returns, or nothing if the call is accepted
 abbrev pub Declined : Type 0

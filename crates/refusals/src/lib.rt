@@ -1,4 +1,4 @@
-// Why a call is refused: one case for each of REF-1 to REF-18.
+// Why a call is refused: one case for each of REF-1 to REF-20.
 ghost use mathlib.Core.Path.{_≡_};
 ghost use lib.ListN.{getD};
 ghost use Rattle.refusals.specs.Paper.{paper};
@@ -22,6 +22,8 @@ pub enum Refusal {
     RowOrColumnTooLarge,
     NoAddress,
     MalformedLine,
+    Misaligned,
+    NotCacheLine,
 }
 
 // What a call returns if it says no more than that it was accepted or refused.
@@ -53,5 +55,7 @@ pub fn number(x: Refusal) -> u8
         Refusal::RowOrColumnTooLarge => 16,
         Refusal::NoAddress => 17,
         Refusal::MalformedLine => 18,
+        Refusal::Misaligned => 19,
+        Refusal::NotCacheLine => 20,
     }
 }

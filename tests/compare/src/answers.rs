@@ -33,21 +33,34 @@ pub fn of_result<T>(result: &Result<T, Refusal>) -> u32 {
     }
 }
 
-/// The way of a read, write or scrub.
-pub fn way_of_memory(result: Result<Answer, Refusal>) -> u32 {
-    match result {
-        Ok(Answer::Clean) => CLEAN,
-        Ok(Answer::Corrected) => CORRECTED,
-        Ok(Answer::Uncorrectable) => UNCORRECTABLE,
-        Ok(Answer::Stored) => STORED,
-        Ok(Answer::NoBank) => NO_BANK,
-        Err(refusal) => of_refusal(refusal),
-    }
+fn kind(answer: Answer) -> u32 {
+    let way = match answer {
+        Answer::Clean => CLEAN,
+        Answer::Corrected => CORRECTED,
+        Answer::Uncorrectable => UNCORRECTABLE,
+        Answer::Stored => STORED,
+        Answer::NoBank => NO_BANK,
+    };
+    way - ACCEPTED
 }
 
 /// The numbers that an accepted read, write or scrub gives: one part.
 pub fn numbers_of_memory(answer: Answer) -> Numbers {
-    [1, way_of_memory(Ok(answer)) - ACCEPTED, 0, 0, 0]
+    [1, kind(answer), 0, 0, 0]
+}
+
+/// The numbers that an accepted burst gives: a part for each beat.
+pub fn numbers_of_burst(beats: [Answer; 4]) -> Numbers {
+    let [first, second, third, fourth] = beats.map(kind);
+    [4, first, second, third, fourth]
+}
+
+/// What names the way of an accepted burst: the kind of each beat is a
+/// hexadecimal digit, and that of the first beat comes first.
+pub fn digits_of_burst([_, beats @ ..]: Numbers) -> u32 {
+    beats
+        .iter()
+        .fold(0, |digits, kind| digits << 4 | kind & 0xF)
 }
 
 /// The numbers if an accepted call gives one.

@@ -155,6 +155,8 @@ pub fn met(request: &Request, way: u32) -> Met {
         Request::Listed(Call::Write { .. }) => "write",
         Request::Listed(Call::Flip { .. }) => "flip",
         Request::Listed(Call::Scrub { .. }) => "scrub",
+        Request::Listed(Call::BurstRead { .. }) => "burst read",
+        Request::Listed(Call::BurstWrite { .. }) => "burst write",
         Request::Listed(Call::ReadRegister { .. }) => "get",
         Request::Listed(Call::WriteRegister { .. }) => "set",
     };

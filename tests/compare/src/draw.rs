@@ -1,10 +1,10 @@
-//! Random records and addresses, beyond those that the model's own
+//! Random records, addresses and bursts, beyond those that the model's own
 //! generators draw.
 
 use model::gen::{setups, Rng};
 use model::map::{self, Column, Layout, Row};
 use model::record::{is_extended, offset, SWITCH_ON};
-use model::Record;
+use model::{Call, Record};
 
 /// Addresses at the ends of the address space and of the ten bits of an MB.
 const EDGES: [u32; 8] = [
@@ -17,6 +17,9 @@ const EDGES: [u32; 8] = [
     0xFFFF_FFF8,
     0xFFFF_FFFF,
 ];
+
+/// Lengths that a burst does not take. The low bits of the last two would do.
+const BAD_LENGTHS: [usize; 10] = [0, 1, 8, 24, 31, 33, 40, 64, 256 + 32, 65_536 + 32];
 
 /// Accepted (on and off), refused, or made by hand.
 pub fn record(rng: &mut Rng) -> Record {
@@ -107,6 +110,25 @@ pub fn address(rng: &mut Rng, layout: Option<&Layout>) -> u32 {
         (_, Some(layout)) => setups::address(rng, layout),
         (_, None) => rng.below(1 << 30),
     }
+}
+
+/// A burst from any doubleword in the line of an address. Few have a wrong
+/// address or length; of these some have both, which shows that 19 comes first.
+pub fn burst(rng: &mut Rng, address: u32) -> Call {
+    let aligned = (address & !31) + 8 * rng.below(4);
+    let misaligned = aligned + 1 + rng.below(7);
+    let bad_length = rng.pick(&BAD_LENGTHS);
+    let (address, count) = match rng.below(16) {
+        0 => (misaligned, 32),
+        1 => (aligned, bad_length),
+        2 => (misaligned, bad_length),
+        _ => (aligned, 32),
+    };
+    if rng.percent(60) {
+        return Call::BurstRead { address, count };
+    }
+    let bytes = rng.bytes(count);
+    Call::BurstWrite { address, bytes }
 }
 
 /// Addresses of the doublewords with these cell numbers; a cell without an

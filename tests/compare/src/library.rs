@@ -89,3 +89,44 @@ pub fn scrub(record: &mut Record, cells: &mut [u8], address: u32, answer: &mut [
     let (pointer, length) = (cells.as_mut_ptr(), cells.len());
     unsafe { ffi::mpc106_raw_scrub(&mut record.bytes, pointer, length, address, answer) }
 }
+
+pub fn burst_read(
+    record: &mut Record,
+    cells: &[u8],
+    address: u32,
+    buffer: &mut [u8],
+    answer: &mut [u32; 5],
+) -> u32 {
+    let (pointer, length) = (buffer.as_mut_ptr(), buffer.len());
+    unsafe {
+        ffi::mpc106_raw_burst_read(
+            &mut record.bytes,
+            cells.as_ptr(),
+            cells.len(),
+            address,
+            pointer,
+            length,
+            answer,
+        )
+    }
+}
+
+pub fn burst_write(
+    record: &mut Record,
+    cells: &mut [u8],
+    address: u32,
+    bytes: &[u8],
+    answer: &mut [u32; 5],
+) -> u32 {
+    unsafe {
+        ffi::mpc106_raw_burst_write(
+            &mut record.bytes,
+            cells.as_mut_ptr(),
+            cells.len(),
+            address,
+            bytes.as_ptr(),
+            bytes.len(),
+            answer,
+        )
+    }
+}

@@ -37,7 +37,8 @@ pub struct State {
 }
 
 /// All that one call gives: what it returned, what it put in the lent numbers
-/// and the lent byte, and the buffer of a read with the guard behind it.
+/// and the lent byte, and the buffer of a read or burst read with the guard
+/// behind it.
 #[derive(Clone, Debug, PartialEq, Eq)]
 pub struct Given {
     pub result: u32,
@@ -163,6 +164,7 @@ impl Request {
             self,
             Request::Map(_)
                 | Request::Listed(Call::Read { .. } | Call::Write { .. } | Call::Scrub { .. })
+                | Request::Listed(Call::BurstRead { .. } | Call::BurstWrite { .. })
         )
     }
 
@@ -174,6 +176,9 @@ impl Request {
             Request::WideGet { .. } | Request::Listed(Call::ReadRegister { .. }) => {
                 u32::from(given.value)
             }
+            Request::Listed(Call::BurstRead { .. } | Call::BurstWrite { .. }) => {
+                answers::digits_of_burst(given.numbers)
+            }
             Request::Listed(_) => given.numbers[1],
             _ => given.numbers[0],
         }
@@ -184,7 +189,9 @@ impl Given {
     /// The bytes before the call; a refused call leaves them unchanged.
     pub fn before(request: &Request) -> Self {
         let buffer = match request {
-            Request::Listed(Call::Read { count, .. }) => vec![GUARD_BYTE; count + GUARD],
+            Request::Listed(Call::Read { count, .. } | Call::BurstRead { count, .. }) => {
+                vec![GUARD_BYTE; count + GUARD]
+            }
             _ => Vec::new(),
         };
         Given {
@@ -225,7 +232,7 @@ impl Given {
         });
     }
 
-    /// The part of the buffer that is lent to a read.
+    /// The part of the buffer that is lent to a read or burst read.
     pub fn lent_buffer(&mut self) -> &mut [u8] {
         let lent = self.buffer.len().saturating_sub(GUARD);
         &mut self.buffer[..lent]
@@ -283,6 +290,12 @@ impl Given {
             }
             Call::Flip { address, bit } => library::flip(record, cells, *address, (*bit).into()),
             Call::Scrub { address } => library::scrub(record, cells, *address, answer),
+            Call::BurstRead { address, .. } => {
+                library::burst_read(record, cells, *address, buffer, answer)
+            }
+            Call::BurstWrite { address, bytes } => {
+                library::burst_write(record, cells, *address, bytes, answer)
+            }
             Call::ReadRegister { offset } => self.get_from_library(record, (*offset).into()),
             Call::WriteRegister { offset, value } => {
                 library::register_write(record, (*offset).into(), *value)
@@ -292,10 +305,20 @@ impl Given {
 
     fn model_call(&mut self, record: &mut Record, cells: &mut [u8], call: &Call) {
         let (buffer, _) = self.lent();
-        let answer = match call {
-            Call::Read { address, .. } => memory::read(record, cells, *address, buffer),
-            Call::Write { address, bytes } => memory::write(record, cells, *address, bytes),
-            Call::Scrub { address } => memory::scrub(record, cells, *address),
+        let single = answers::numbers_of_memory;
+        let burst = answers::numbers_of_burst;
+        let numbers = match call {
+            Call::Read { address, .. } => memory::read(record, cells, *address, buffer).map(single),
+            Call::Write { address, bytes } => {
+                memory::write(record, cells, *address, bytes).map(single)
+            }
+            Call::Scrub { address } => memory::scrub(record, cells, *address).map(single),
+            Call::BurstRead { address, .. } => {
+                memory::burst_read(record, cells, *address, buffer).map(burst)
+            }
+            Call::BurstWrite { address, bytes } => {
+                memory::burst_write(record, cells, *address, bytes).map(burst)
+            }
             Call::Flip { address, bit } => {
                 return self.accept(memory::flip(record, cells, *address, *bit), |_, ()| ());
             }
@@ -304,9 +327,7 @@ impl Given {
                 return self.accept(record.write_register(*offset, *value), |_, ()| ());
             }
         };
-        self.accept(answer, |given, answer| {
-            given.numbers = answers::numbers_of_memory(answer);
-        });
+        self.accept(numbers, |given, numbers| given.numbers = numbers);
     }
 }
 
@@ -315,7 +336,7 @@ fn first_difference(library: &[u8], model: &[u8]) -> Option<String> {
     Some(format!("{at:#x}: {:02x} / {:02x}", library[at], model[at]))
 }
 
-pub fn hex(bytes: &[u8]) -> String {
+fn hex(bytes: &[u8]) -> String {
     bytes.iter().map(|byte| format!("{byte:02x}")).collect()
 }
 
@@ -347,6 +368,12 @@ impl fmt::Display for Request {
                 Call::Write { address, bytes } => write!(f, "write {address:08x} {}", hex(bytes)),
                 Call::Flip { address, bit } => write!(f, "flip {address:08x} {bit}"),
                 Call::Scrub { address } => write!(f, "scrub {address:08x}"),
+                Call::BurstRead { address, count } => {
+                    write!(f, "burst read {address:08x} {count}")
+                }
+                Call::BurstWrite { address, bytes } => {
+                    write!(f, "burst write {address:08x} {}", hex(bytes))
+                }
                 Call::ReadRegister { offset } => write!(f, "get {offset:02x}"),
                 Call::WriteRegister { offset, value } => write!(f, "set {offset:02x} {value:02x}"),
             },

@@ -1,5 +1,6 @@
 //! The tests by name.
 
+mod bursts;
 mod examples;
 mod limit;
 mod lists;
@@ -27,6 +28,7 @@ pub const TESTS: &[Test] = &[
         examples::wide_numbers_and_cells()
     }),
     test("examples-memory", |_, _| examples::memory_and_errors()),
+    test("examples-bursts", |_, _| examples::bursts()),
     test("examples-lines", |_, busline| examples::lines(busline)),
     test("bank-ends", |_, busline| examples::bank_ends(busline)),
     test("registers", |rng, _| registers::random_calls(rng)),
@@ -41,6 +43,9 @@ pub const TESTS: &[Test] = &[
     test("memory", |rng, _| memory::few_cells(rng)),
     test("memory-two-banks", |rng, _| memory::two_banks(rng)),
     test("every-flip", |rng, _| memory::every_flip(rng)),
+    test("bursts", |rng, _| bursts::from_any_state(rng)),
+    test("bursts-edges", |rng, _| bursts::edges(rng)),
+    test("bursts-lent", |rng, _| bursts::partly_lent(rng)),
     test("limit", |rng, _| limit::beside_the_library(rng)),
     test("lists", |rng, _| lists::against_flat_machine(rng)),
     test("scripts", scripts::random_scripts),

@@ -23,6 +23,15 @@ pub enum Call {
     Scrub {
         address: u32,
     },
+    /// A burst read into a buffer of that many bytes, lent to it alone.
+    BurstRead {
+        address: u32,
+        count: usize,
+    },
+    BurstWrite {
+        address: u32,
+        bytes: Vec<u8>,
+    },
     ReadRegister {
         offset: u8,
     },
@@ -42,6 +51,10 @@ pub enum Outcome {
     Read(Answer, Vec<u8>),
     /// LIST-9: of a flip only that it was accepted.
     Flipped,
+    /// Of an accepted burst read: the answers and bytes in the order of beats.
+    BurstRead([Answer; 4], Vec<u8>),
+    /// Of an accepted burst write.
+    BurstWritten([Answer; 4]),
 }
 
 /// Runs a list; each call gets what the one before left. Register calls give
@@ -65,6 +78,14 @@ pub fn step(record: &mut Record, cells: &mut [u8], call: &Call) -> Option<Outcom
             memory::flip(record, cells, *address, *bit).map(|()| Outcome::Flipped)
         }
         Call::Scrub { address } => memory::scrub(record, cells, *address).map(Outcome::Answered),
+        Call::BurstRead { address, count } => {
+            let mut buffer = vec![0; *count];
+            memory::burst_read(record, cells, *address, &mut buffer)
+                .map(|answers| Outcome::BurstRead(answers, buffer))
+        }
+        Call::BurstWrite { address, bytes } => {
+            memory::burst_write(record, cells, *address, bytes).map(Outcome::BurstWritten)
+        }
         Call::ReadRegister { offset } => {
             let _ = record.read_register(*offset);
             return None;

@@ -59,43 +59,47 @@ impl FlatMachine {
     /// Runs one call.
     pub fn step(&mut self, call: &Call) -> Option<Outcome> {
         let outcome = match call {
-            Call::Read { address, count } => self.read(*address, *count),
-            Call::Write { address, bytes } => self.write(*address, bytes),
+            Call::Read { address, count } => self
+                .read(*address, *count)
+                .map(|(answer, bytes)| Outcome::Read(answer, bytes)),
+            Call::Write { address, bytes } => self.write(*address, bytes).map(Outcome::Answered),
             Call::Flip { address, bit } => self.flip(*address, *bit),
             Call::Scrub { address } => Ok(self.scrub(*address)),
+            Call::BurstRead { address, count } => self.burst_read(*address, *count),
+            Call::BurstWrite { address, bytes } => self.burst_write(*address, bytes),
             Call::ReadRegister { .. } | Call::WriteRegister { .. } => return None,
         };
         Some(outcome.unwrap_or_else(Outcome::Refused))
     }
 
     /// FLAT-3
-    fn read(&self, address: u32, count: usize) -> Result<Outcome, Refusal> {
+    fn read(&self, address: u32, count: usize) -> Result<(Answer, Vec<u8>), Refusal> {
         check_access(address, count)?;
         if !self.selects_bank(address) {
-            return Ok(Outcome::Read(Answer::NoBank, vec![0xFF; count]));
+            return Ok((Answer::NoBank, vec![0xFF; count]));
         }
         let bytes = (address..=address + (count as u32 - 1))
             .map(|at| self.bytes.get(&at).copied().unwrap_or(0))
             .collect();
         let marked = self.marks.contains(&doubleword(address));
-        Ok(Outcome::Read(answer_by_mark(marked), bytes))
+        Ok((answer_by_mark(marked), bytes))
     }
 
     /// FLAT-2
-    fn write(&mut self, address: u32, bytes: &[u8]) -> Result<Outcome, Refusal> {
+    fn write(&mut self, address: u32, bytes: &[u8]) -> Result<Answer, Refusal> {
         check_access(address, bytes.len())?;
         if !self.selects_bank(address) {
-            return Ok(Outcome::Answered(Answer::NoBank));
+            return Ok(Answer::NoBank);
         }
         for (distance, &byte) in (0..).zip(bytes) {
             self.bytes.insert(address + distance, byte);
         }
         let marked = self.marks.remove(&doubleword(address));
-        Ok(Outcome::Answered(if bytes.len() == 8 {
+        Ok(if bytes.len() == 8 {
             Answer::Stored
         } else {
             answer_by_mark(marked)
-        }))
+        })
     }
 
     /// FLAT-5
@@ -118,6 +122,38 @@ impl FlatMachine {
             Answer::NoBank
         })
     }
+
+    /// FLAT-9: four reads of eight bytes.
+    fn burst_read(&self, address: u32, count: usize) -> Result<Outcome, Refusal> {
+        check_burst(address, count)?;
+        let mut answers = [Answer::NoBank; 4];
+        let mut bytes = Vec::with_capacity(32);
+        for (answer, beat) in answers.iter_mut().zip(beats(address)) {
+            let (kind, data) = self.read(beat, 8)?;
+            *answer = kind;
+            bytes.extend(data);
+        }
+        Ok(Outcome::BurstRead(answers, bytes))
+    }
+
+    /// FLAT-9: four writes of eight bytes.
+    fn burst_write(&mut self, address: u32, bytes: &[u8]) -> Result<Outcome, Refusal> {
+        check_burst(address, bytes.len())?;
+        let mut answers = [Answer::NoBank; 4];
+        let parts = beats(address).zip(bytes.chunks(8));
+        for (answer, (beat, data)) in answers.iter_mut().zip(parts) {
+            *answer = self.write(beat, data)?;
+        }
+        Ok(Outcome::BurstWritten(answers))
+    }
+}
+
+/// MEM-14: the doubleword asked for and those behind it in its line, then those
+/// before it. Written in another way than for the cells, see [`check_access`].
+fn beats(address: u32) -> impl Iterator<Item = u32> {
+    let line = address & !0x1F;
+    let behind = (address..=line + 24).step_by(8);
+    behind.chain((line..address).step_by(8))
 }
 
 /// The number of the doubleword that contains an address.
@@ -144,4 +180,15 @@ fn check_access(address: u32, count: usize) -> Result<(), Refusal> {
         return Err(Refusal::LeavesDoubleword);
     }
     Ok(())
+}
+
+/// FLAT-6: refusals 19 and 20 follow from the arguments too.
+fn check_burst(address: u32, count: usize) -> Result<(), Refusal> {
+    if address & 7 != 0 {
+        Err(Refusal::Misaligned)
+    } else if count != 32 {
+        Err(Refusal::NotCacheLine)
+    } else {
+        Ok(())
+    }
 }

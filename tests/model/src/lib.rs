@@ -1,10 +1,12 @@
 //! The memory side of the MPC106: registers, banks, map, check code, memory
-//! calls with their error registers, the flat machine and the line program.
+//! calls and line bursts with their error registers, the flat machine and the
+//! line program.
 //!
 //! This is a second implementation, written from the specification alone,
 //! without looking at the first. Comments cite the rules of
 //! docs/SPECIFICATION.md.
 
+pub mod bursts;
 pub mod calls;
 pub mod code;
 pub mod flat;

@@ -1,7 +1,9 @@
 //! Memory calls on a record and lent cells, and what they do to the error
-//! registers.
+//! registers. Bursts have a file of their own.
 
 use std::ops::Range;
+
+pub use crate::bursts::{burst_read, burst_write};
 
 use crate::code::{self, Reading, CELL_BYTES, FLIP_BITS};
 use crate::map::{self, Layout};
@@ -15,7 +17,7 @@ const NO_BANK_BIT: u8 = 1 << 5;
 /// C4 and C5, bit 3: uncorrectable.
 const UNCORRECTABLE_BIT: u8 = 1 << 3;
 
-/// The answer of an accepted read, write or scrub.
+/// The answer of an accepted read, write or scrub, or of one beat of a burst.
 #[derive(Clone, Copy, Debug, PartialEq, Eq, Hash)]
 pub enum Answer {
     Clean,
@@ -43,22 +45,32 @@ pub fn read(
     buffer: &mut [u8],
 ) -> Result<Answer, Refusal> {
     let layout = map::switched_on(record)?;
-    let bytes = access(address, buffer.len())?;
-    let answer = match lent_cell(&layout, cells.len(), address)? {
-        // MEM-9
-        None => {
-            buffer.fill(0xFF);
-            Answer::NoBank
-        }
-        // MEM-3: the right bytes, or if they are lost the stored ones.
-        Some(range) => {
-            let (reading, data) = code::read_cell(cell(cells, range));
-            buffer.copy_from_slice(&data[bytes]);
-            reading.into()
-        }
-    };
+    let part = access(address, buffer.len())?;
+    let range = lent_cell(&layout, cells.len(), address)?;
+    let answer = read_part(cells, range, part, buffer);
     report(record, answer, address);
     Ok(answer)
+}
+
+/// Fills a buffer with a part of a doubleword. This and the functions that
+/// bursts share with single calls are inlined by name: the compiler does not do
+/// it for two callers, and the calls are a baseline for speed.
+#[inline(always)]
+pub(crate) fn read_part(
+    cells: &[u8],
+    range: Option<Range<usize>>,
+    part: Range<usize>,
+    buffer: &mut [u8],
+) -> Answer {
+    // MEM-9
+    let Some(range) = range else {
+        buffer.fill(0xFF);
+        return Answer::NoBank;
+    };
+    // MEM-3: the right bytes, or if they are lost the stored ones.
+    let (reading, data) = code::read_cell(cell(cells, range));
+    buffer.copy_from_slice(&data[part]);
+    reading.into()
 }
 
 /// MEM-2: a write.
@@ -70,12 +82,24 @@ pub fn write(
 ) -> Result<Answer, Refusal> {
     let layout = map::switched_on(record)?;
     let part = access(address, bytes.len())?;
-    let answer = match lent_cell(&layout, cells.len(), address)? {
-        None => Answer::NoBank,
-        Some(range) => write_cell(cell_mut(cells, range), part, bytes),
-    };
+    let range = lent_cell(&layout, cells.len(), address)?;
+    let answer = write_part(cells, range, part, bytes);
     report(record, answer, address);
     Ok(answer)
+}
+
+/// Puts bytes in a part of a doubleword; MEM-9 without a bank.
+#[inline(always)]
+pub(crate) fn write_part(
+    cells: &mut [u8],
+    range: Option<Range<usize>>,
+    part: Range<usize>,
+    bytes: &[u8],
+) -> Answer {
+    match range {
+        None => Answer::NoBank,
+        Some(range) => write_cell(cell_mut(cells, range), part, bytes),
+    }
 }
 
 /// MEM-4 for eight bytes; MEM-5 and MEM-6 for fewer.
@@ -137,7 +161,12 @@ fn access(address: u32, count: usize) -> Result<Range<usize>, Refusal> {
 
 /// MAP-8, MEM-11: the range of cell k; none without a bank, or refusal 9 if not
 /// all nine bytes are lent.
-fn lent_cell(layout: &Layout, lent: usize, address: u32) -> Result<Option<Range<usize>>, Refusal> {
+#[inline(always)]
+pub(crate) fn lent_cell(
+    layout: &Layout,
+    lent: usize,
+    address: u32,
+) -> Result<Option<Range<usize>>, Refusal> {
     let Some(place) = layout.locate(address) else {
         return Ok(None);
     };
@@ -160,8 +189,9 @@ fn cell_mut(cells: &mut [u8], range: Range<usize>) -> &mut [u8; CELL_BYTES] {
         .expect("a cell is nine bytes")
 }
 
-/// The error registers after a read, write or scrub.
-fn report(record: &mut Record, answer: Answer, address: u32) {
+/// The error registers after a read, write or scrub, or after one beat.
+#[inline(always)]
+pub(crate) fn report(record: &mut Record, answer: Answer, address: u32) {
     let was_quiet = record.at(ERROR_DETECTION_1) == 0 && record.at(ERROR_DETECTION_2) == 0;
     let detected = match answer {
         Answer::Clean | Answer::Stored => false,

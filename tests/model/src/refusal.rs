@@ -1,4 +1,4 @@
-//! The eighteen refusals (REF-1 to REF-18) and what each returns.
+//! The twenty refusals (REF-1 to REF-20) and what each returns.
 
 /// Why a call is refused. Refusals 12 to 14 carry the bank that is returned
 /// with the number.
@@ -40,6 +40,10 @@ pub enum Refusal {
     NoAddress,
     /// REF-18: a malformed line.
     MalformedLine,
+    /// REF-19: a burst that starts inside a doubleword.
+    Misaligned,
+    /// REF-20: a burst of more or less than a cache line.
+    NotCacheLine,
 }
 
 impl Refusal {
@@ -64,6 +68,8 @@ impl Refusal {
             Refusal::RowOrColumnTooLarge => 16,
             Refusal::NoAddress => 17,
             Refusal::MalformedLine => 18,
+            Refusal::Misaligned => 19,
+            Refusal::NotCacheLine => 20,
         }
     }
 

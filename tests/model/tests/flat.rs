@@ -1,6 +1,6 @@
 //! The flat machine against the cells, over whole lists.
 
-use std::collections::HashMap;
+use std::collections::{BTreeSet, HashMap};
 
 use model::calls::{self, Call, Outcome};
 use model::flat::{FlatMachine, Span};
@@ -42,15 +42,24 @@ fn flat_machine_against_cells() {
         }
     }
     println!("{seen:?}");
-    assert_eq!(seen.len(), 13, "{seen:?}");
+    // Single calls and register calls; bursts: four kinds of reads, two of
+    // writes, two refusals.
+    assert_eq!(seen.len(), 13 + 4 + 2 + 2, "{seen:?}");
 }
 
-/// What kind of outcome it is, bytes left out.
+/// What kind of outcome it is, bytes left out; of a burst, which answers occur.
 fn kind(outcome: &Option<Outcome>) -> String {
     match outcome {
         Some(Outcome::Read(answer, _)) => format!("read {answer:?}"),
+        Some(Outcome::BurstRead(answers, _)) => format!("burst read {}", occurring(answers)),
+        Some(Outcome::BurstWritten(answers)) => format!("burst write {}", occurring(answers)),
         other => format!("{other:?}"),
     }
+}
+
+fn occurring(answers: &[Answer]) -> String {
+    let names: BTreeSet<String> = answers.iter().map(|answer| format!("{answer:?}")).collect();
+    format!("{names:?}")
 }
 
 #[test]
@@ -78,6 +87,36 @@ fn two_flips_break_the_condition() {
         &record,
         &[flip(1), flip(72), scrub, flip(2)]
     ));
+}
+
+/// LIST-6: an accepted burst write comes between two flips of any doubleword of
+/// its line. A burst read, a refused burst write or one of another line doesn't.
+#[test]
+fn bursts_in_the_condition() {
+    let mut record = Record::fresh();
+    record.write_register(0xA0, 1).unwrap();
+    record.write_register(0xF2, 8).unwrap();
+    let keeps = |flipped, burst: Call| {
+        let flip = |bit| Call::Flip {
+            address: flipped,
+            bit,
+        };
+        lists::keeps_condition(&record, &[flip(1), burst, flip(2)])
+    };
+    let burst_write = |address, count| Call::BurstWrite {
+        address,
+        bytes: vec![0; count],
+    };
+    for flipped in [0x20, 0x2F, 0x33, 0x38] {
+        for address in [0x20, 0x28, 0x30, 0x38] {
+            assert!(keeps(flipped, burst_write(address, 32)));
+            assert!(!keeps(flipped, burst_write(address, 31)));
+            assert!(!keeps(flipped, burst_write(address + 1, 32)));
+            assert!(!keeps(flipped, Call::BurstRead { address, count: 32 }));
+        }
+        assert!(!keeps(flipped, burst_write(0x18, 32)));
+        assert!(!keeps(flipped, burst_write(0x40, 32)));
+    }
 }
 
 /// A flat machine whose only span is MB 0.

@@ -2,8 +2,11 @@
 
 use std::collections::HashSet;
 
-use model::gen::{scripts, setups, Rng};
-use model::map::judge;
+use model::calls::{Call, Outcome};
+use model::flat::FlatMachine;
+use model::gen::{lists, scripts, setups, Rng};
+use model::map::{judge, Layout};
+use model::Answer;
 
 #[test]
 fn accepted_set_ups_are_mixed() {
@@ -43,4 +46,74 @@ fn one_seed_gives_one_script() {
     assert_eq!(script(11), script(11));
     assert_ne!(script(11), script(12));
     assert!(script(11).iter().all(|line| !line.contains(&b'\n')));
+}
+
+/// Where the line of an accepted burst lies.
+fn line_kinds(layout: &Layout, line: u32) -> Vec<String> {
+    let mut kinds = Vec::new();
+    for (_, bank) in layout.enabled() {
+        if line == bank.start_mb << 20 {
+            kinds.push("first of a span");
+        }
+        if line + 31 == (bank.last_mb << 20) + 0xF_FFFF {
+            kinds.push("last of a span");
+        }
+    }
+    if layout.locate(line).is_none() {
+        kinds.push("no bank");
+    }
+    match line {
+        0xFFFF_FFE0 => kinds.push("last of all"),
+        0xFFFF_FFC0 => kinds.push("last but one"),
+        0 => kinds.push("first of all"),
+        _ => {}
+    }
+    kinds.into_iter().map(String::from).collect()
+}
+
+/// How many marks stand in the line of an accepted burst. The machine is not
+/// changed by the look at it.
+fn marks_met(flat: &mut FlatMachine, address: u32) -> usize {
+    match flat.step(&Call::BurstRead { address, count: 32 }) {
+        Some(Outcome::BurstRead(answers, _)) => answers
+            .iter()
+            .filter(|&&answer| answer == Answer::Corrected)
+            .count(),
+        other => panic!("an accepted burst: {other:?}"),
+    }
+}
+
+/// Of a burst: whether it is a write, its address and its length.
+fn burst(call: &Call) -> Option<(bool, u32, usize)> {
+    match call {
+        Call::BurstRead { address, count } => Some((false, *address, *count)),
+        Call::BurstWrite { address, bytes } => Some((true, *address, bytes.len())),
+        _ => None,
+    }
+}
+
+#[test]
+fn lists_have_bursts_of_all_sorts() {
+    let mut seen = HashSet::new();
+    for seed in 0..40 {
+        let rng = &mut Rng::new(seed);
+        let record = setups::accepted(rng, u32::MAX);
+        let layout = judge(&record).unwrap();
+        let mut flat = FlatMachine::of_record(&record).unwrap();
+        for call in lists::list(rng, &record, 1500) {
+            if let Some((is_write, address, count)) = burst(&call) {
+                let faults = (address % 8 != 0, count != 32);
+                let mut kinds = vec![format!("faults {faults:?}")];
+                if faults == (false, false) {
+                    kinds.push(format!("start {}", address % 32));
+                    kinds.push(format!("marks {}", marks_met(&mut flat, address)));
+                    kinds.extend(line_kinds(&layout, address & !31));
+                }
+                seen.extend(kinds.into_iter().map(|kind| (is_write, kind)));
+            }
+            flat.step(&call);
+        }
+    }
+    // Reads and writes: faults, starts, marks from none to four, lines.
+    assert_eq!(seen.len(), 2 * (4 + 4 + 5 + 6), "{seen:?}");
 }

@@ -9,14 +9,14 @@ use Rattle.refusals.proofs.Refusal.{the-type}
 use Rattle.refusals.specs.declared.Refusal.{Refusal}
 use Rattle.refusals.specs.declared.Refusal.the-variants.{UnlistedOffset, ReadOnly, ValueOutOfRange, LockedWhileOn, NotReady, CountOutOfRange}
 use Rattle.refusals.specs.declared.Refusal.the-variants.{CrossesDoubleword, BitOutOfRange, NotLent, FlipWithoutBank, NoBankEnabled, StartAboveEnd}
-use Rattle.refusals.specs.declared.Refusal.the-variants.{TooLong, Overlap, BankOff, RowOrColumnTooLarge, NoAddress, MalformedLine}
+use Rattle.refusals.specs.declared.Refusal.the-variants.{TooLong, Overlap, BankOff, RowOrColumnTooLarge, NoAddress, MalformedLine, Misaligned, NotCacheLine}
 use borrow.Author.Needs.{needs}
 use Rattle.results.proofs.bank.Statement.{statement}
 use Rattle.results.proofs.bank.Tie as tie
 
 -- the other variants, by number
 abbrev others : List ℕ
-others = 0 ∷ 1 ∷ 2 ∷ 3 ∷ 4 ∷ 5 ∷ 6 ∷ 7 ∷ 8 ∷ 9 ∷ 10 ∷ 14 ∷ 15 ∷ 16 ∷ 17 ∷ []
+others = 0 ∷ 1 ∷ 2 ∷ 3 ∷ 4 ∷ 5 ∷ 6 ∷ 7 ∷ 8 ∷ 9 ∷ 10 ∷ 14 ∷ 15 ∷ 16 ∷ 17 ∷ 18 ∷ 19 ∷ []
 
 no-bank : (x : Refusal) → OneOf others (tagOf the-type x) → 0 ≡ getD (paper x) 1 0
 no-bank UnlistedOffset h = refl
@@ -37,6 +37,8 @@ no-bank BankOff h = refl
 no-bank RowOrColumnTooLarge h = refl
 no-bank NoAddress h = refl
 no-bank MalformedLine h = refl
+no-bank Misaligned h = refl
+no-bank NotCacheLine h = refl
 
 returns : tie.Need-returns
 returns c = rw (c .before .x .given .1)

@@ -9,25 +9,19 @@ use model::record::{offset, SWITCH_ON};
 use model::{Call, Outcome, Record};
 
 use crate::answers::{self, ACCEPTED};
-use crate::case::{ways, Met};
+use crate::case::{met, ways, Met};
 use crate::coverage::Coverage;
 use crate::draw;
 use crate::library;
-use crate::request::{hex, nonzero, Request, State};
+use crate::request::{nonzero, Given, Request, State};
 use crate::shrink::{self, Budget};
+use crate::tests::bursts;
 
 const LISTS: usize = 1_500;
 const CALLS: usize = 400;
 
 /// All cells are lent; those never touched take no memory.
 const MOST_CELLS: u32 = 1 << 24;
-
-/// What is compared of a memory call: the way it went, and a read's bytes.
-#[derive(PartialEq, Eq)]
-struct Compared {
-    way: u32,
-    bytes: Vec<u8>,
-}
 
 pub fn against_flat_machine(rng: &mut Rng) -> Result<String, String> {
     let mut coverage = Coverage::new();
@@ -99,41 +93,39 @@ fn difference(
     let mut flat = FlatMachine::of_record(&on).ok()?;
     let mut library = State::zeroed(on, CELL_BYTES * map::judge(&on).ok()?.cells() as usize);
     for (index, call) in calls.iter().enumerate() {
-        let from_library = from_library(&mut library, call);
-        let Some(from_flat) = flat.step(call).map(from_flat) else {
+        let request = Request::Listed(call.clone());
+        let from_library = library.ask_library(&request);
+        let Some(outcome) = flat.step(call) else {
             // A register call: it must only leave the memory calls alone.
             continue;
         };
-        coverage.meet((kind(call), from_flat.way));
-        if from_library != from_flat {
-            let text = format!("{} / {}", shown(&from_library), shown(&from_flat));
+        let from_flat = from_flat(&request, outcome);
+        coverage.meet(met(&request, from_flat.way(&request)));
+        if let Some(text) = Given::difference(&from_library, &from_flat) {
             return Some((index, text));
         }
     }
     None
 }
 
-fn from_library(library: &mut State, call: &Call) -> Compared {
-    let request = Request::Listed(call.clone());
-    let mut given = library.ask_library(&request);
-    let way = given.way(&request);
-    let accepted_read = matches!(call, Call::Read { .. }) && way >= ACCEPTED;
-    let bytes = if accepted_read {
-        given.lent_buffer().to_vec()
-    } else {
-        Vec::new()
+/// LIST-8, LIST-9: what the library has to give for an outcome of the flat
+/// machine.
+fn from_flat(request: &Request, outcome: Outcome) -> Given {
+    let mut given = Given::before(request);
+    let (numbers, bytes) = match outcome {
+        Outcome::Refused(refusal) => {
+            given.result = answers::of_refusal(refusal);
+            return given;
+        }
+        Outcome::Flipped => return given,
+        Outcome::Answered(answer) => (answers::numbers_of_memory(answer), Vec::new()),
+        Outcome::Read(answer, bytes) => (answers::numbers_of_memory(answer), bytes),
+        Outcome::BurstWritten(beats) => (answers::numbers_of_burst(beats), Vec::new()),
+        Outcome::BurstRead(beats, bytes) => (answers::numbers_of_burst(beats), bytes),
     };
-    Compared { way, bytes }
-}
-
-fn from_flat(outcome: Outcome) -> Compared {
-    let (way, bytes) = match outcome {
-        Outcome::Refused(refusal) => (answers::of_refusal(refusal), Vec::new()),
-        Outcome::Answered(answer) => (answers::way_of_memory(Ok(answer)), Vec::new()),
-        Outcome::Read(answer, bytes) => (answers::way_of_memory(Ok(answer)), bytes),
-        Outcome::Flipped => (ACCEPTED, Vec::new()),
-    };
-    Compared { way, bytes }
+    given.numbers = numbers;
+    given.lent_buffer().copy_from_slice(&bytes);
+    given
 }
 
 /// Fewer calls that still meet the condition, then a record with more zeros.
@@ -165,24 +157,13 @@ fn smallest(off: &Record, calls: &[Call]) -> String {
     )
 }
 
-fn shown(compared: &Compared) -> String {
-    format!("{} {}", answers::shown(compared.way), hex(&compared.bytes))
-}
-
-fn kind(call: &Call) -> &'static str {
-    match call {
-        Call::Read { .. } => "read",
-        Call::Write { .. } => "write",
-        Call::Flip { .. } => "flip",
-        Call::Scrub { .. } => "scrub",
-        Call::ReadRegister { .. } | Call::WriteRegister { .. } => "register",
-    }
-}
-
 /// Under the condition nothing is uncorrectable, and every cell is lent.
 fn wanted() -> impl Iterator<Item = Met> {
     ways("read", &[1, 2, 5], &[6, 7])
         .chain(ways("write", &[1, 2, 4, 5], &[6, 7]))
         .chain(ways("scrub", &[1, 2, 5], &[]))
         .chain(ways("flip", &[0], &[8, 10]))
+        .chain(bursts::mixtures("burst read", &[1, 2]))
+        .chain(ways("burst read", &[0x5555], &[19, 20]))
+        .chain(ways("burst write", &[0x4444, 0x5555], &[19, 20]))
 }

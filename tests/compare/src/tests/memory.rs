@@ -10,6 +10,7 @@ use crate::case::{ways, Case, Met};
 use crate::coverage::Coverage;
 use crate::draw;
 use crate::request::Request;
+use crate::tests::bursts;
 
 const CASES: usize = 16_000;
 const CALLS: usize = 60;
@@ -43,7 +44,13 @@ pub fn two_banks(rng: &mut Rng) -> Result<String, String> {
     for _ in 0..TWO_BANK_CASES {
         two_bank_case(rng).check(&mut coverage)?;
     }
-    coverage.check(ways("read", &[1, 2, 3, 5], &[9]))?;
+    let burst_reads = ways("burst read", &[0x1111, 0x5555], &[9]);
+    let burst_writes = ways("burst write", &[0x4444, 0x5555], &[9]);
+    coverage.check(
+        ways("read", &[1, 2, 3, 5], &[9])
+            .chain(burst_reads)
+            .chain(burst_writes),
+    )?;
     Ok(format!(
         "{TWO_BANK_CASES} records and cells, {TWO_BANK_CALLS} calls each"
     ))
@@ -76,9 +83,18 @@ pub fn all_ways() -> impl Iterator<Item = Met> {
         .chain(ways("scrub", &[1, 2, 3, 5], &[5, 9]))
         .chain(ways("flip", &[0], &[5, 8, 9, 10]))
         .chain(ways("wide flip", &[], &[5, 8]))
+        .chain(bursts::all_ways())
 }
 
 pub fn few_cells_case(rng: &mut Rng) -> Case {
+    let (mut case, hot) = few_cells_lent(rng);
+    case.requests = requests(rng, &case.record, &hot, CALLS);
+    case
+}
+
+/// A case without calls yet, and addresses of its cells and of those just past
+/// the end of what is lent.
+pub fn few_cells_lent(rng: &mut Rng) -> (Case, Vec<u32>) {
     let lent = rng.below(MOST_CELLS + 1);
     // The cells at and past the end of what is lent are asked for too.
     let numbers: Vec<u32> = (0..lent + 2).collect();
@@ -93,16 +109,16 @@ pub fn few_cells_case(rng: &mut Rng) -> Case {
         cells.truncate(length);
     }
     let hot = draw::addresses_of_cells(&record, &numbers);
-    let requests = requests(rng, &record, &hot, CALLS);
-    Case {
+    let case = Case {
         record,
         cells,
-        requests,
-    }
+        requests: Vec::new(),
+    };
+    (case, hot)
 }
 
 /// A record that has an address for one of the cells, if one is found.
-fn record_with_cells(rng: &mut Rng, numbers: &[u32]) -> Record {
+pub fn record_with_cells(rng: &mut Rng, numbers: &[u32]) -> Record {
     let mut record = draw::mostly_on(rng);
     for _ in 0..REDRAWS {
         if !draw::addresses_of_cells(&record, numbers).is_empty() {
@@ -145,7 +161,7 @@ fn two_bank_case(rng: &mut Rng) -> Case {
 }
 
 /// Cells of all conditions.
-fn cells(rng: &mut Rng, count: u32) -> Vec<u8> {
+pub fn cells(rng: &mut Rng, count: u32) -> Vec<u8> {
     (0..count).flat_map(|_| cell(rng)).collect()
 }
 
@@ -190,32 +206,38 @@ fn widened(rng: &mut Rng, call: Call) -> Request {
     }
 }
 
-fn call(rng: &mut Rng, layout: Option<&Layout>, hot: &[u32]) -> Call {
-    let address = if hot.is_empty() || rng.percent(10) {
+/// Mostly an address of a cell that is lent or nearly so.
+pub fn hot_address(rng: &mut Rng, layout: Option<&Layout>, hot: &[u32]) -> u32 {
+    if hot.is_empty() || rng.percent(10) {
         draw::address(rng, layout)
     } else {
         rng.pick(hot) + rng.below(8)
-    };
+    }
+}
+
+fn call(rng: &mut Rng, layout: Option<&Layout>, hot: &[u32]) -> Call {
+    let address = hot_address(rng, layout, hot);
     match rng.below(100) {
-        0..=24 => {
+        0..=19 => {
             let count = count(rng, address);
             Call::Read { address, count }
         }
-        25..=39 => {
+        20..=31 => {
             let count = count(rng, address);
             let bytes = rng.bytes(count);
             Call::Write { address, bytes }
         }
-        40..=49 => Call::Write {
+        32..=39 => Call::Write {
             address: address & !7,
             bytes: rng.bytes(8),
         },
-        50..=69 => Call::Flip {
+        40..=56 => Call::Flip {
             address,
             bit: flip_bit(rng),
         },
-        70..=84 => Call::Scrub { address },
-        85..=97 => error_register_call(rng),
+        57..=69 => Call::Scrub { address },
+        70..=86 => draw::burst(rng, address),
+        87..=97 => error_register_call(rng),
         _ => Call::WriteRegister {
             offset: offset::SWITCH,
             value: rng.pick(&[0, 8, 8, 8]),

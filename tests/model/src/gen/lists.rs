@@ -9,8 +9,12 @@ use crate::flat::{doubleword, FlatMachine};
 use crate::map::{self, Layout};
 use crate::record::Record;
 
-/// Number of addresses that are used again and again in one list.
-const HOT_ADDRESSES: usize = 24;
+/// Number of addresses that are used again and again in one list, besides those
+/// of [`hot_lines`].
+const HOT_ADDRESSES: usize = 16;
+
+/// Lengths that a burst does not take; 288 is 32 in eight bits.
+const BAD_LENGTHS: [usize; 10] = [0, 1, 8, 16, 24, 31, 33, 40, 64, 288];
 
 /// A list that meets LIST-6, for a record that was just switched on.
 pub fn list(rng: &mut Rng, record: &Record, length: usize) -> Vec<Call> {
@@ -46,6 +50,11 @@ impl ListMaker<'_> {
             let address = setups::address(self.rng, layout);
             self.hot.push(address & !7);
         }
+        // All four doublewords, so that one burst meets several flips.
+        for line in hot_lines(self.rng, layout) {
+            self.hot
+                .extend([0, 8, 16, 24].map(|distance| line + distance));
+        }
     }
 
     fn address(&mut self) -> u32 {
@@ -53,11 +62,13 @@ impl ListMaker<'_> {
     }
 
     fn add(&mut self) {
-        match self.rng.below(20) {
+        match self.rng.below(26) {
             0..=4 => self.add_read(),
             5..=9 => self.add_write(),
             10..=14 => self.add_flip(),
             15..=17 => self.add_scrub(),
+            18..=20 => self.add_burst_read(),
+            21..=23 => self.add_burst_write(),
             _ => self.add_register_call(),
         }
     }
@@ -99,8 +110,50 @@ impl ListMaker<'_> {
         self.calls.push(Call::Scrub { address });
     }
 
-    /// A flip; one that would break the condition gets a scrub or a short
-    /// write before it.
+    /// A starting doubleword in the line of a hot address.
+    fn line_start(&mut self, address: u32) -> u32 {
+        (address & !31) + 8 * self.rng.below(4)
+    }
+
+    /// Address and length of a burst, mostly accepted. One kind of refused ones
+    /// has both faults, so that the order of 19 and 20 is seen.
+    fn burst(&mut self) -> (u32, usize) {
+        let hot = self.address();
+        let aligned = self.line_start(hot);
+        let misaligned = aligned + 1 + self.rng.below(7);
+        let bad_length = self.rng.pick(&BAD_LENGTHS);
+        match self.rng.below(12) {
+            0 => (misaligned, 32),
+            1 => (aligned, bad_length),
+            2 => (misaligned, bad_length),
+            _ => (aligned, 32),
+        }
+    }
+
+    fn add_burst_read(&mut self) {
+        let (address, count) = self.burst();
+        self.calls.push(Call::BurstRead { address, count });
+    }
+
+    fn add_burst_write(&mut self) {
+        let (address, count) = self.burst();
+        self.push_burst_write(address, count);
+    }
+
+    /// LIST-6: an accepted burst write writes all four doublewords of its line.
+    fn push_burst_write(&mut self, address: u32, count: usize) {
+        let bytes = self.rng.bytes(count);
+        if address.is_multiple_of(8) && count == 32 {
+            let first = doubleword(address & !31);
+            for written in first..first + 4 {
+                self.flipped.remove(&written);
+            }
+        }
+        self.calls.push(Call::BurstWrite { address, bytes });
+    }
+
+    /// A flip; one that would break the condition gets a scrub, a short write
+    /// or a burst write before it.
     fn add_flip(&mut self) {
         let address = self.address();
         let bit = if self.rng.percent(5) {
@@ -109,16 +162,27 @@ impl ListMaker<'_> {
             self.rng.below(72) as u8
         };
         let accepted = bit <= 71 && self.flat.selects_bank(address);
-        if accepted && !self.flipped.insert(doubleword(address)) {
-            let mend = if self.rng.percent(50) {
-                Call::Scrub { address }
-            } else {
-                let bytes = self.rng.bytes(1);
-                Call::Write { address, bytes }
-            };
-            self.calls.push(mend);
+        if accepted {
+            if self.flipped.contains(&doubleword(address)) {
+                self.add_mend(address);
+            }
+            self.flipped.insert(doubleword(address));
         }
         self.calls.push(Call::Flip { address, bit });
+    }
+
+    fn add_mend(&mut self, address: u32) {
+        match self.rng.below(5) {
+            0 | 1 => self.calls.push(Call::Scrub { address }),
+            2 | 3 => {
+                let bytes = self.rng.bytes(1);
+                self.calls.push(Call::Write { address, bytes });
+            }
+            _ => {
+                let start = self.line_start(address);
+                self.push_burst_write(start, 32);
+            }
+        }
     }
 
     /// LIST-1: register reads and writes from B8 to CB, also refused ones.
@@ -133,6 +197,24 @@ impl ListMaker<'_> {
     }
 }
 
+/// Lines where a burst that does not wrap, or wraps elsewhere, is found out: the
+/// first and the last line of a bank, a line just outside of it, and one at an
+/// end of the address space. Two more are anywhere.
+fn hot_lines(rng: &mut Rng, layout: &Layout) -> [u32; 6] {
+    let banks: Vec<_> = layout.enabled().map(|(_, bank)| *bank).collect();
+    let bank = rng.pick(&banks);
+    let first = bank.start_mb << 20;
+    let after = (bank.last_mb + 1) << 20;
+    [
+        first,
+        after - 32,
+        rng.pick(&[first.wrapping_sub(32), after]),
+        rng.pick(&[0xFFFF_FFE0, 0xFFFF_FFC0, 0]),
+        setups::address(rng, layout) & !31,
+        setups::address(rng, layout) & !31,
+    ]
+}
+
 /// True if a list meets LIST-6, judged by the flat machine's refusals; an
 /// independent check on [`list`].
 pub fn keeps_condition(record: &Record, calls: &[Call]) -> bool {
@@ -145,6 +227,10 @@ pub fn keeps_condition(record: &Record, calls: &[Call]) -> bool {
             Call::Flip { address, .. } if accepted => flipped.insert(doubleword(*address)),
             Call::Write { address, .. } | Call::Scrub { address } if accepted => {
                 flipped.remove(&doubleword(*address));
+                true
+            }
+            Call::BurstWrite { address, .. } if accepted => {
+                flipped.retain(|flipped| flipped / 4 != address / 32);
                 true
             }
             _ => true,

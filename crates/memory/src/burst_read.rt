@@ -1,0 +1,166 @@
+// Burst reads. A burst is judged as a whole before its first beat is performed, and the record is decoded once, for the last doubleword of the
+// line.
+ghost use mathlib.Core.Path.{_≡_};
+ghost use mathlib.Core.Bool.{true};
+ghost use mathlib.Core.List.{[]};
+ghost use mathlib.Core.Option.{none, some};
+ghost use Prim.Native.Nat.{ℕ, _%_};
+ghost use lib.ListN.{length, take};
+ghost use Rattle.registers.specs.declared.Registers.{Registers};
+ghost use Rattle.registers.specs.Record.{recordOf};
+ghost use Rattle.banks.specs.Setup.{setupOf};
+ghost use Rattle.banks.specs.Map.{cellOf};
+ghost use Rattle.ecc.specs.Columns.{columns};
+ghost use Rattle.ecc.specs.CheckCode.{syndromeOf};
+ghost use Rattle.ecc.specs.Doubleword.{bytesOfNumber};
+ghost use Rattle.ecc.specs.Lending.{cellAt, isLent};
+ghost use Rattle.calls.specs.Calls.{beatAddress, readIn, burstRead, parts, got};
+ghost use Rattle.calls.specs.State.{state};
+ghost use Rattle.calls.specs.Answers.{leaves, effectOf};
+ghost use Rattle.machine.specs.Calls.{accessAt, performed, burstReadCall};
+ghost use Rattle.cache_line.specs.CodeLine.{lineEnd, cellInLine};
+use crate::access;
+use crate::access::LENT;
+use crate::access::NO_COLUMNS;
+use crate::beats::answer;
+use crate::beats::miss_beats;
+use crate::bytes::copy_line;
+use crate::in_place::refuse;
+use crate::judge::Judged;
+use crate::judge::judge;
+use crate::judge::locate;
+use crate::lent::doubleword_at;
+use cache_line::beat_address;
+use cache_line::cell_in_line;
+use cache_line::end_of_line;
+use cache_line::judge_line;
+use calls::Answer;
+use calls::Kind;
+use registers::Registers;
+
+// MEM-9: what each beat of a burst read without a bank puts in its buffer.
+const ONES: u64 = 0xffffffffffffffff;
+
+// What a beat answers, and its doubleword.
+pub struct Beat {
+    pub kind: Kind,
+    pub doubleword: u64,
+}
+
+// Beat i of a burst read at `address`; `last` is the last cell of the line.
+fn read_beat(registers: &mut [u8; 256], cells: &[u8], last: usize, address: u32, i: u32) -> Beat
+    requires { ⌜ (isLent (now cells) last ≡ true) × (last % 4 ≡ 3) × (address % 8 ≡ 0) ⌝ }
+    ensures { λ x. ⌜ (got (x .kind) (bytesOfNumber (x .doubleword)), state (recordOf (now (registers .exit))) (now (cells .entry))) ≡ accessAt columns (some (cellInLine (beatAddress address i) last)) (state (recordOf (now (registers .entry))) (now (cells .entry))) (readIn (beatAddress address i) 8) ⌝ }
+{
+    let a = beat_address(address, i);
+    let k = cell_in_line(last, a);
+    let s = access::syndrome_at(LENT, &NO_COLUMNS, cells, k);
+    let loaded = access::load(LENT, &NO_COLUMNS, cells, k, s);
+    let reading = loaded.reading;
+    let kind = access::kind_of(reading);
+    error_registers::report(registers, kind, a);
+    Beat {
+        kind: kind,
+        doubleword: loaded.doubleword,
+    }
+}
+
+// The cells of the line whose last cell this is are all clean. There are no branches, so that four syndromes are computed at once.
+fn is_clean(cells: &[u8], last: usize) -> bool
+    requires { ⌜ (isLent (now cells) last ≡ true) × (last % 4 ≡ 3) ⌝ }
+    ensures { λ t. ⌜ (t ≡ true → (a : ℕ) → syndromeOf columns (cellAt (now (cells .entry)) (cellInLine a last)) ≡ 0) ⌝ }
+{
+    let first = access::syndrome_at(LENT, &NO_COLUMNS, cells, last - 3);
+    let second = access::syndrome_at(LENT, &NO_COLUMNS, cells, last - 2);
+    let third = access::syndrome_at(LENT, &NO_COLUMNS, cells, last - 1);
+    let fourth = access::syndrome_at(LENT, &NO_COLUMNS, cells, last);
+    (first == 0) & (second == 0) & ((third == 0) & (fourth == 0))
+}
+
+// The doubleword of beat i as it is stored.
+fn beat_at(cells: &[u8], last: usize, address: u32, i: u32) -> u64
+    requires { ⌜ (isLent (now cells) last ≡ true) × (last % 4 ≡ 3) ⌝ }
+    ensures { λ r. ⌜ bytesOfNumber r ≡ take 8 (cellAt (now (cells .entry)) (cellInLine (beatAddress address i) last)) ⌝ }
+{
+    doubleword_at(cells, cell_in_line(last, beat_address(address, i)))
+}
+
+// A burst read of clean cells: none of its answers is reported (ERR-8).
+fn copy_beats(cells: &[u8], last: usize, address: u32, buffer: &mut [u8]) -> Answer
+    requires { ⌜ (isLent (now cells) last ≡ true) × (last % 4 ≡ 3) × (address % 8 ≡ 0) × (length (now buffer) ≡ 32) × ((a : ℕ) → syndromeOf columns (cellAt (now cells) (cellInLine a last)) ≡ 0) ⌝ }
+    ensures { λ x. ⌜ ((r : Registers) → cellOf (setupOf r) (lineEnd address) ≡ some last → leaves x (state r (now (cells .entry))) (now (buffer .exit)) ≡ effectOf (performed columns none (state r (now (cells .entry))) (parts (burstRead address 32))) []) ⌝ }
+{
+    let first = beat_at(cells, last, address, 0);
+    let second = beat_at(cells, last, address, 1);
+    let third = beat_at(cells, last, address, 2);
+    let fourth = beat_at(cells, last, address, 3);
+    copy_line(first, second, third, fourth, buffer);
+    answer(Kind::Clean, Kind::Clean, Kind::Clean, Kind::Clean)
+}
+
+// A burst read, beat by beat.
+fn read_each_beat(
+    registers: &mut [u8; 256],
+    cells: &[u8],
+    last: usize,
+    address: u32,
+    buffer: &mut [u8],
+) -> Answer
+    requires { ⌜ (isLent (now cells) last ≡ true) × (cellOf (setupOf (recordOf (now registers))) (lineEnd address) ≡ some last) × (address % 8 ≡ 0) × (length (now buffer) ≡ 32) ⌝ }
+    ensures { λ x. ⌜ leaves x (state (recordOf (now (registers .exit))) (now (cells .entry))) (now (buffer .exit)) ≡ effectOf (performed columns none (state (recordOf (now (registers .entry))) (now (cells .entry))) (parts (burstRead address 32))) [] ⌝ }
+{
+    let a = read_beat(registers, cells, last, address, 0);
+    let b = read_beat(registers, cells, last, address, 1);
+    let c = read_beat(registers, cells, last, address, 2);
+    let d = read_beat(registers, cells, last, address, 3);
+    copy_line(
+        a.doubleword,
+        b.doubleword,
+        c.doubleword,
+        d.doubleword,
+        buffer,
+    );
+    let first = a.kind;
+    let second = b.kind;
+    let third = c.kind;
+    let fourth = d.kind;
+    answer(first, second, third, fourth)
+}
+
+// A burst read. Most lines are clean: such a line is copied without a reading of each cell.
+fn read_beats(
+    registers: &mut [u8; 256],
+    cells: &[u8],
+    last: usize,
+    address: u32,
+    buffer: &mut [u8],
+) -> Answer
+    requires { ⌜ (isLent (now cells) last ≡ true) × (cellOf (setupOf (recordOf (now registers))) (lineEnd address) ≡ some last) × (address % 8 ≡ 0) × (length (now buffer) ≡ 32) ⌝ }
+    ensures { λ x. ⌜ leaves x (state (recordOf (now (registers .exit))) (now (cells .entry))) (now (buffer .exit)) ≡ effectOf (performed columns none (state (recordOf (now (registers .entry))) (now (cells .entry))) (parts (burstRead address 32))) [] ⌝ }
+{
+    if is_clean(cells, last) {
+        return copy_beats(cells, last, address, buffer);
+    }
+    read_each_beat(registers, cells, last, address, buffer)
+}
+
+pub fn burst_read_in_place(
+    registers: &mut [u8; 256],
+    cells: &[u8],
+    address: u32,
+    buffer: &mut [u8],
+) -> Answer
+    ensures { λ x. ⌜ leaves x (state (recordOf (now (registers .exit))) (now (cells .entry))) (now (buffer .exit)) ≡ burstReadCall columns (state (recordOf (now (registers .entry))) (now (cells .entry))) address (now (buffer .entry)) ⌝ }
+{
+    let end = end_of_line(address);
+    let x = locate(Registers { bytes: *registers }, cells.len(), end);
+    let judged = judge(x, judge_line(address, buffer.len()));
+    match judged {
+        Judged::Refused(x) => refuse(x),
+        Judged::NoBank => {
+            copy_line(ONES, ONES, ONES, ONES, buffer);
+            miss_beats(registers, address)
+        }
+        Judged::Cell(k) => read_beats(registers, cells, k, address, buffer),
+    }
+}
