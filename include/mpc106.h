@@ -224,7 +224,7 @@ static inline const char *mpc106_refusal_text(uint32_t result)
     case MPC106_COUNT_OUT_OF_RANGE: return "the number of bytes is not 1 to 8";
     case MPC106_CROSSES_DOUBLEWORD: return "the bytes don't lie in one doubleword";
     case MPC106_BIT_OUT_OF_RANGE: return "the bit is above 71";
-    case MPC106_NOT_LENT: return "the cell is not wholly within the lent cells";
+    case MPC106_NOT_LENT: return "a cell that the call needs is not wholly within the lent cells";
     case MPC106_FLIP_WITHOUT_BANK: return "there is no bit to flip: no enabled bank holds the address";
     case MPC106_NO_BANK_ENABLED: return "no bank is enabled";
     case MPC106_START_ABOVE_END: return "an enabled bank starts above its end";
@@ -376,11 +376,11 @@ static inline uint32_t mpc106_scrub(const mpc106_memory *memory, uint32_t addres
 /*
  * Reads a cache line, the 32 bytes from a multiple of 32 on, into buffer, in four beats of one doubleword each.
  * So count must be MPC106_LINE_BYTES.
- * The first beat is at address, which must be a multiple of 8. Each other beat is at the doubleword behind the one
- * before it, and behind the last doubleword of the line comes the first: the beats of a burst at 0x50 are at 0x50,
- * 0x58, 0x40 and 0x48.
+ * The first beat is at address, which must be a multiple of 8. Each further beat is at the next doubleword, and after
+ * the last doubleword of the line comes the first: the beats of a burst at 0x50 are at 0x50, 0x58, 0x40 and 0x48.
  * Each beat is what mpc106_read of 8 bytes is. It gives a part of the answer and eight bytes of buffer, both in the
- * order of the beats; no kind of part stops the burst. The error registers are left as four such calls leave them.
+ * order of the beats; a beat that is uncorrectable or finds no bank does not stop the others. The error registers are
+ * left as four such calls leave them.
  * If one of the four cells is not lent, the burst is refused whole.
  * Refused: 5, 19, 20, 9.
  */

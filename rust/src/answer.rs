@@ -41,7 +41,7 @@ impl Answer {
         &self.parts[..self.count]
     }
 
-    /// The kind of the first part.
+    /// The kind of the first part: of a burst, that of its first beat alone; see [`kinds`](Answer::kinds).
     pub fn kind(&self) -> Kind {
         self.parts[0].kind
     }

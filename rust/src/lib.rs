@@ -38,6 +38,7 @@ mod answer;
 pub mod ffi;
 #[cfg(feature = "alloc")]
 mod memory;
+mod memory_calls;
 pub mod offset;
 mod record;
 mod refusal;

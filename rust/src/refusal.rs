@@ -97,7 +97,7 @@ impl Refusal {
             Refusal::CountOutOfRange => "the number of bytes is not 1 to 8",
             Refusal::CrossesDoubleword => "the bytes don't lie in one doubleword",
             Refusal::BitOutOfRange => "the bit is above 71",
-            Refusal::NotLent => "the cell is not wholly within the lent cells",
+            Refusal::NotLent => "a cell that the call needs is not wholly within the lent cells",
             Refusal::FlipWithoutBank => {
                 "there is no bit to flip: no enabled bank holds the address"
             }
@@ -206,7 +206,7 @@ mod tests {
         let error: std::boxed::Box<dyn std::error::Error> = refusal(9).into();
         assert_eq!(
             error.to_string(),
-            "the cell is not wholly within the lent cells"
+            "a cell that the call needs is not wholly within the lent cells"
         );
     }
 }

@@ -182,7 +182,7 @@ static void bursts_without_bank(void)
     CHECK(a.record.registers[MPC106_ERROR_DETECTION_1] == 0x20 && error_address(&a.record) == 0xffffffe8u);
 }
 
-/* A read and a write are refused with this number, and leave everything as it was. */
+/* A burst read and a burst write are refused with this number, and leave everything as it was. */
 static void check_refused(uint32_t refusal, size_t lent, uint32_t address, size_t count)
 {
     static const uint8_t bytes[sizeof a.buffer] = {1, 2, 3};

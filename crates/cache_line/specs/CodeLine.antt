@@ -2,8 +2,8 @@
 use Prim.Native.Nat.{ℕ, _+_, _*_, _/_, _%_}
 
 -- the last doubleword of the line that holds the address a
-abbrev pub lineEnd : ℕ → ℕ
-lineEnd a = 32 * (a / 32) + 24
+abbrev pub lastDoubleword : ℕ → ℕ
+lastDoubleword a = 32 * (a / 32) + 24
 
 -- the cell of the address a, if k is the cell of another address in its line
 abbrev pub cellInLine : ℕ → ℕ → ℕ

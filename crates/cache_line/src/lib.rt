@@ -4,7 +4,7 @@ ghost use mathlib.Core.Path.{_≡_};
 ghost use Rattle.refusals.specs.Paper.{paperVerdict};
 ghost use Rattle.calls.specs.Calls.{beatAddress};
 ghost use Rattle.calls.specs.Spans.{byLine};
-ghost use Rattle.cache_line.specs.CodeLine.{lineEnd, cellInLine};
+ghost use Rattle.cache_line.specs.CodeLine.{lastDoubleword, cellInLine};
 use refusals::Refusal;
 use refusals::Verdict;
 
@@ -16,8 +16,8 @@ pub fn beat_address(address: u32, i: u32) -> u32
 }
 
 // The address of the last doubleword of the line.
-pub fn end_of_line(address: u32) -> u32
-    ensures { λ r. ⌜ r ≡ lineEnd address ⌝ }
+pub fn last_doubleword(address: u32) -> u32
+    ensures { λ r. ⌜ r ≡ lastDoubleword address ⌝ }
 {
     32 * (address / 32) + 24
 }

@@ -41,7 +41,7 @@ beatBytes bs i = take 8 (drop (8 * i) bs)
 abbrev pub fourBeats : (ℕ → Access) → List Access
 fourBeats beat = beat 0 ∷ beat 1 ∷ beat 2 ∷ beat 3 ∷ []
 
--- MEM-1: the accesses of a call, in order. MEM-13: those of a burst read or write the eight bytes of a doubleword
+-- MEM-1: the accesses of a call, in order. MEM-13: a burst has four, each of all eight bytes of a doubleword
 unfoldable pub parts : MemoryCall → List Access
 parts (read a n) = readIn a n ∷ []
 parts (write a bs) = writeIn a bs ∷ []

@@ -18,7 +18,7 @@ use Rattle.calls.specs.State.{State, state}
 use Rattle.machine.specs.Calls.{setup, spansOf, unlentAt, unlent, refusal, onTarget, accessAt, access, accesses, performed, memoryCall, called}
 use Rattle.machine.proofs.SetupLaws.{setup-reported}
 use Rattle.memory.specs.CodeJudged.{judgedAt}
-use Rattle.cache_line.specs.CodeLine.{lineEnd}
+use Rattle.cache_line.specs.CodeLine.{lastDoubleword}
 use Rattle.memory.proofs.LineLaws.{inLine, beat-cells, end-is-last, line-unlent}
 
 -- ---- refusals
@@ -26,11 +26,11 @@ use Rattle.memory.proofs.LineLaws.{inLine, beat-cells, end-is-last, lin
 module _ (st : State) (a : ℕ) where
   -- the four cells, by that of the end of the line
   beats-lent : (beat : ℕ → Access) → ((i : ℕ) → addressOf (beat i) ≡ beatAddress a i)
-      → unlent st (fourBeats beat) ≡ unlentAt (cellOf (setup st) (lineEnd a)) (st .cells)
+      → unlent st (fourBeats beat) ≡ unlentAt (cellOf (setup st) (lastDoubleword a)) (st .cells)
   unfolding unlent unlentAt
   beats-lent beat at =
       rw (at 0, at 1, at 2, at 3, beat-cells (st .registers) a 0, beat-cells (st .registers) a 1, beat-cells (st .registers) a 2, beat-cells (st .registers) a 3)
-      (go (cellOf (setup st) (lineEnd a)) refl)
+      (go (cellOf (setup st) (lastDoubleword a)) refl)
     where
       Lent : Option ℕ → Type 0
       Lent o =
@@ -38,20 +38,20 @@ module _ (st : State) (a : ℕ) where
           else unlentAt (inLine (beatAddress a 2) o) (st .cells) else unlentAt (inLine (beatAddress a 3) o) (st .cells) else none)
           ≡ unlentAt o (st .cells)
 
-      go : (o : Option ℕ) → cellOf (setup st) (lineEnd a) ≡ o → Lent o
+      go : (o : Option ℕ) → cellOf (setup st) (lastDoubleword a) ≡ o → Lent o
       go none e = refl
       go (some k) e = line-unlent (st .cells) a k (end-is-last (st .registers) a k e)
 
   burst-refusal : (c : MemoryCall) (beat : ℕ → Access) → ((i : ℕ) → addressOf (beat i) ≡ beatAddress a i) → parts c ≡ fourBeats beat
-      → bySpans (spansOf (setup st)) c ≡ none → refusal st c ≡ judgedAt st (lineEnd a) (byArguments c)
+      → bySpans (spansOf (setup st)) c ≡ none → refusal st c ≡ judgedAt st (lastDoubleword a) (byArguments c)
   unfolding refusal byCall judgedAt
   burst-refusal c beat at p h = rw (p, h, else-none (byArguments c), beats-lent beat at)
 
-  pub burst-read-refusal : (n : ℕ) → refusal st (burstRead a n) ≡ judgedAt st (lineEnd a) (byLine a n)
+  pub burst-read-refusal : (n : ℕ) → refusal st (burstRead a n) ≡ judgedAt st (lastDoubleword a) (byLine a n)
   unfolding parts bySpans byArguments
   burst-read-refusal n = burst-refusal (burstRead a n) (λ i. readIn (beatAddress a i) 8) (λ i. refl) refl refl
 
-  pub burst-write-refusal : (bs : List ℕ) → refusal st (burstWrite a bs) ≡ judgedAt st (lineEnd a) (byLine a (length bs))
+  pub burst-write-refusal : (bs : List ℕ) → refusal st (burstWrite a bs) ≡ judgedAt st (lastDoubleword a) (byLine a (length bs))
   unfolding parts bySpans byArguments
   burst-write-refusal bs = burst-refusal (burstWrite a bs) (λ i. writeIn (beatAddress a i) (beatBytes bs i)) (λ i. refl) refl refl
 
@@ -117,7 +117,7 @@ module _ (cols : List ℕ) (st : State) (a : ℕ) where
   burst-write-done bs free = rw free
 
   -- without a bank
-  module _ (out : cellOf (setup st) (lineEnd a) ≡ none) where
+  module _ (out : cellOf (setup st) (lastDoubleword a) ≡ none) where
     abbrev reportedBeats : Registers
     reportedBeats =
         reported NoBank (beatAddress a 3) (reported NoBank (beatAddress a 2) (reported NoBank (beatAddress a 1) (reported NoBank (beatAddress a 0) (st .registers))))

@@ -23,7 +23,7 @@ use Rattle.ecc.proofs.CellLaws.{lent-fits, fits-lent}
 use Rattle.calls.specs.Calls.{beatAddress}
 use Rattle.calls.proofs.BeatLaws.{beat-in-line, beat-number}
 use Rattle.machine.specs.Calls.{unlentAt}
-use Rattle.cache_line.specs.CodeLine.{lineEnd, cellInLine}
+use Rattle.cache_line.specs.CodeLine.{lastDoubleword, cellInLine}
 
 -- ---- a bank has at least nine row bits and eight column bits, so its cells make whole lines
 
@@ -72,17 +72,17 @@ module _ (s : Setup) (d : (n : ℕ) → Decoded (bank s n)) where
 
 module _ (r : Registers) (a : ℕ) where
   -- the cells of the beats, by that of the end of the line
-  pub beat-cells : (i : ℕ) → cellOf (setupOf r) (beatAddress a i) ≡ inLine (beatAddress a i) (cellOf (setupOf r) (lineEnd a))
-  beat-cells i = same-line (setupOf r) (decoded r) (lineEnd a) (beatAddress a i) (omega (arith, beat-in-line a i))
+  pub beat-cells : (i : ℕ) → cellOf (setupOf r) (beatAddress a i) ≡ inLine (beatAddress a i) (cellOf (setupOf r) (lastDoubleword a))
+  beat-cells i = same-line (setupOf r) (decoded r) (lastDoubleword a) (beatAddress a i) (omega (arith, beat-in-line a i))
 
-  module _ (k : ℕ) (found : cellOf (setupOf r) (lineEnd a) ≡ some k) where
+  module _ (k : ℕ) (found : cellOf (setupOf r) (lastDoubleword a) ≡ some k) where
     pub beat-cell : (i : ℕ) → cellOf (setupOf r) (beatAddress a i) ≡ some (cellInLine (beatAddress a i) k)
     beat-cell i = beat-cells i ∙ ap (inLine (beatAddress a i)) found
 
     pub end-is-last : k % 4 ≡ 3
     end-is-last =
-        let e : some k ≡ some (cellInLine (lineEnd a) k) = sym found ∙ same-line (setupOf r) (decoded r) (lineEnd a) (lineEnd a) refl ∙ ap (inLine (lineEnd a)) found in
-        let q : k ≡ cellInLine (lineEnd a) k = cc in
+        let e : some k ≡ some (cellInLine (lastDoubleword a) k) = sym found ∙ same-line (setupOf r) (decoded r) (lastDoubleword a) (lastDoubleword a) refl ∙ ap (inLine (lastDoubleword a)) found in
+        let q : k ≡ cellInLine (lastDoubleword a) k = cc in
         omega (arith, q)
 
 -- ---- lending
@@ -97,27 +97,27 @@ pub line-lent : (cells : List ℕ) (a k : ℕ) → k % 4 ≡ 3 → isLent cells 
 line-lent cells a k last t = fits-lent cells (cellInLine a k) (omega (arith, last, lent-fits cells k t))
 
 module _ (cells : List ℕ) (a k : ℕ) (last : k % 4 ≡ 3) where
-  abbrev pub lentAt : ℕ → Declined
-  lentAt i = unlentAt (some (cellInLine (beatAddress a i) k)) cells
+  abbrev pub unlentBeat : ℕ → Declined
+  unlentBeat i = unlentAt (some (cellInLine (beatAddress a i) k)) cells
 
-  beat-lent : isLent cells k ≡ true → (i : ℕ) → lentAt i ≡ none
+  beat-lent : isLent cells k ≡ true → (i : ℕ) → unlentBeat i ≡ none
   unfolding unlentAt
   beat-lent t i = rw (line-lent cells (beatAddress a i) k last t)
 
   -- the beat that goes to the last one
-  beat-unlent : isLent cells k ≡ false → (i : ℕ) → (a / 8 + i) % 4 ≡ 3 → lentAt i ≡ some (9 ∷ [])
+  beat-unlent : isLent cells k ≡ false → (i : ℕ) → (a / 8 + i) % 4 ≡ 3 → unlentBeat i ≡ some (9 ∷ [])
   unfolding unlentAt
   beat-unlent t i e =
       let same : cellInLine (beatAddress a i) k ≡ k = omega (arith, beat-number a i, e, last) in
       rw (same, t)
 
   -- a beat before it makes no difference
-  same-cause : (i : ℕ) → (lentAt i else some (9 ∷ [])) ≡ some (9 ∷ [])
+  same-cause : (i : ℕ) → (unlentBeat i else some (9 ∷ [])) ≡ some (9 ∷ [])
   unfolding unlentAt
   same-cause i = caused (not (isLent cells (cellInLine (beatAddress a i) k))) (9 ∷ [])
 
   -- some beat goes to it
-  any-unlent : isLent cells k ≡ false → (lentAt 0 else lentAt 1 else lentAt 2 else lentAt 3 else none) ≡ some (9 ∷ [])
+  any-unlent : isLent cells k ≡ false → (unlentBeat 0 else unlentBeat 1 else unlentBeat 2 else unlentBeat 3 else none) ≡ some (9 ∷ [])
   any-unlent t =
       let m = a / 8 % 4 in
       byCases (eqb m 3) (λ u. rw (beat-unlent t 0 (omega (arith, eqb-true m 3 u))))
@@ -127,7 +127,7 @@ module _ (cells : List ℕ) (a k : ℕ) (last : k % 4 ≡ 3) where
       byCases (eqb m 1) (λ w. rw (beat-unlent t 2 (omega (arith, eqb-true m 1 w)), same-cause 1, same-cause 0))
       (λ w. rw (beat-unlent t 3 (omega (arith, eqb-false m 3 u, eqb-false m 2 v, eqb-false m 1 w)), same-cause 2, same-cause 1, same-cause 0))))
 
-  pub line-unlent : (lentAt 0 else lentAt 1 else lentAt 2 else lentAt 3 else none) ≡ unlentAt (some k) cells
+  pub line-unlent : (unlentBeat 0 else unlentBeat 1 else unlentBeat 2 else unlentBeat 3 else none) ≡ unlentAt (some k) cells
   unfolding unlentAt
   line-unlent =
       byCases (isLent cells k) (λ t. rw (beat-lent t 0, beat-lent t 1, beat-lent t 2, beat-lent t 3, t)) (λ t. rw (any-unlent t, t))

@@ -19,7 +19,7 @@ use Rattle.machine.specs.Calls.{setup, unlentAt}
 use Rattle.memory.specs.declared.judge.Judged.{Judged}
 use Rattle.memory.specs.declared.judge.Judged.the-variants.{Refused, NoBank, Cell}
 
--- 5, then what the arguments get, then 9: all that refuses a call at the address a, except 10
+-- 5, then what the arguments get, then 9: all that refuses a call at the address a, except 10; for a burst a is the last doubleword of its line
 unfoldable pub judgedAt : State → ℕ → Declined → Declined
 judgedAt st a d = notReady (setup st) else d else unlentAt (cellOf (setup st) a) (st .cells)
 

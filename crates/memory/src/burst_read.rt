@@ -18,12 +18,13 @@ ghost use Rattle.calls.specs.Calls.{beatAddress, readIn, burstRead, parts, got}
 ghost use Rattle.calls.specs.State.{state};
 ghost use Rattle.calls.specs.Answers.{leaves, effectOf};
 ghost use Rattle.machine.specs.Calls.{accessAt, performed, burstReadCall};
-ghost use Rattle.cache_line.specs.CodeLine.{lineEnd, cellInLine};
+ghost use Rattle.cache_line.specs.CodeLine.{lastDoubleword, cellInLine};
 use crate::access;
 use crate::access::LENT;
 use crate::access::NO_COLUMNS;
 use crate::beats::answer;
 use crate::beats::miss_beats;
+use crate::bytes::ONES;
 use crate::bytes::copy_line;
 use crate::in_place::refuse;
 use crate::judge::Judged;
@@ -32,14 +33,11 @@ use crate::judge::locate;
 use crate::lent::doubleword_at;
 use cache_line::beat_address;
 use cache_line::cell_in_line;
-use cache_line::end_of_line;
 use cache_line::judge_line;
+use cache_line::last_doubleword;
 use calls::Answer;
 use calls::Kind;
 use registers::Registers;
-
-// MEM-9: what each beat of a burst read without a bank puts in its buffer.
-const ONES: u64 = 0xffffffffffffffff;
 
 // What a beat answers, and its doubleword.
 pub struct Beat {
@@ -88,7 +86,7 @@ fn beat_at(cells: &[u8], last: usize, address: u32, i: u32) -> u64
 // A burst read of clean cells: none of its answers is reported (ERR-8).
 fn copy_beats(cells: &[u8], last: usize, address: u32, buffer: &mut [u8]) -> Answer
     requires { ⌜ (isLent (now cells) last ≡ true) × (last % 4 ≡ 3) × (address % 8 ≡ 0) × (length (now buffer) ≡ 32) × ((a : ℕ) → syndromeOf columns (cellAt (now cells) (cellInLine a last)) ≡ 0) ⌝ }
-    ensures { λ x. ⌜ ((r : Registers) → cellOf (setupOf r) (lineEnd address) ≡ some last → leaves x (state r (now (cells .entry))) (now (buffer .exit)) ≡ effectOf (performed columns none (state r (now (cells .entry))) (parts (burstRead address 32))) []) ⌝ }
+    ensures { λ x. ⌜ ((r : Registers) → cellOf (setupOf r) (lastDoubleword address) ≡ some last → leaves x (state r (now (cells .entry))) (now (buffer .exit)) ≡ effectOf (performed columns none (state r (now (cells .entry))) (parts (burstRead address 32))) []) ⌝ }
 {
     let first = beat_at(cells, last, address, 0);
     let second = beat_at(cells, last, address, 1);
@@ -106,7 +104,7 @@ fn read_each_beat(
     address: u32,
     buffer: &mut [u8],
 ) -> Answer
-    requires { ⌜ (isLent (now cells) last ≡ true) × (cellOf (setupOf (recordOf (now registers))) (lineEnd address) ≡ some last) × (address % 8 ≡ 0) × (length (now buffer) ≡ 32) ⌝ }
+    requires { ⌜ (isLent (now cells) last ≡ true) × (cellOf (setupOf (recordOf (now registers))) (lastDoubleword address) ≡ some last) × (address % 8 ≡ 0) × (length (now buffer) ≡ 32) ⌝ }
     ensures { λ x. ⌜ leaves x (state (recordOf (now (registers .exit))) (now (cells .entry))) (now (buffer .exit)) ≡ effectOf (performed columns none (state (recordOf (now (registers .entry))) (now (cells .entry))) (parts (burstRead address 32))) [] ⌝ }
 {
     let a = read_beat(registers, cells, last, address, 0);
@@ -135,7 +133,7 @@ fn read_beats(
     address: u32,
     buffer: &mut [u8],
 ) -> Answer
-    requires { ⌜ (isLent (now cells) last ≡ true) × (cellOf (setupOf (recordOf (now registers))) (lineEnd address) ≡ some last) × (address % 8 ≡ 0) × (length (now buffer) ≡ 32) ⌝ }
+    requires { ⌜ (isLent (now cells) last ≡ true) × (cellOf (setupOf (recordOf (now registers))) (lastDoubleword address) ≡ some last) × (address % 8 ≡ 0) × (length (now buffer) ≡ 32) ⌝ }
     ensures { λ x. ⌜ leaves x (state (recordOf (now (registers .exit))) (now (cells .entry))) (now (buffer .exit)) ≡ effectOf (performed columns none (state (recordOf (now (registers .entry))) (now (cells .entry))) (parts (burstRead address 32))) [] ⌝ }
 {
     if is_clean(cells, last) {
@@ -152,7 +150,7 @@ pub fn burst_read_in_place(
 ) -> Answer
     ensures { λ x. ⌜ leaves x (state (recordOf (now (registers .exit))) (now (cells .entry))) (now (buffer .exit)) ≡ burstReadCall columns (state (recordOf (now (registers .entry))) (now (cells .entry))) address (now (buffer .entry)) ⌝ }
 {
-    let end = end_of_line(address);
+    let end = last_doubleword(address);
     let x = locate(Registers { bytes: *registers }, cells.len(), end);
     let judged = judge(x, judge_line(address, buffer.len()));
     match judged {

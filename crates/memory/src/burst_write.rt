@@ -17,7 +17,7 @@ ghost use Rattle.calls.specs.Calls.{beatAddress, writeIn, burstWrite, parts, go
 ghost use Rattle.calls.specs.State.{state};
 ghost use Rattle.calls.specs.Answers.{leaves, effectOf};
 ghost use Rattle.machine.specs.Calls.{onTarget, performed, burstWriteCall};
-ghost use Rattle.cache_line.specs.CodeLine.{lineEnd, cellInLine};
+ghost use Rattle.cache_line.specs.CodeLine.{lastDoubleword, cellInLine};
 use crate::access;
 use crate::access::LENT;
 use crate::access::NO_COLUMNS;
@@ -29,8 +29,8 @@ use crate::judge::judge;
 use crate::judge::locate;
 use cache_line::beat_address;
 use cache_line::cell_in_line;
-use cache_line::end_of_line;
 use cache_line::judge_line;
+use cache_line::last_doubleword;
 use calls::Answer;
 use calls::Kind;
 use registers::Registers;
@@ -46,7 +46,7 @@ fn write_beat(cells: &mut [u8], last: usize, address: u32, i: u32, doubleword: u
 
 fn write_beats(cells: &mut [u8], last: usize, address: u32, bytes: &[u8]) -> Answer
     requires { ⌜ (isLent (now cells) last ≡ true) × (last % 4 ≡ 3) × (length (now bytes) ≡ 32) ⌝ }
-    ensures { λ x. ⌜ ((r : Registers) → cellOf (setupOf r) (lineEnd address) ≡ some last → leaves x (state r (now (cells .exit))) [] ≡ effectOf (performed columns none (state r (now (cells .entry))) (parts (burstWrite address (now (bytes .entry))))) []) ⌝ }
+    ensures { λ x. ⌜ ((r : Registers) → cellOf (setupOf r) (lastDoubleword address) ≡ some last → leaves x (state r (now (cells .exit))) [] ≡ effectOf (performed columns none (state r (now (cells .entry))) (parts (burstWrite address (now (bytes .entry))))) []) ⌝ }
 {
     let first = eight_bytes::number_at(bytes, 0);
     let second = eight_bytes::number_at(bytes, 8);
@@ -67,7 +67,7 @@ pub fn burst_write_in_place(
 ) -> Answer
     ensures { λ x. ⌜ leaves x (state (recordOf (now (registers .exit))) (now (cells .exit))) [] ≡ burstWriteCall columns (state (recordOf (now (registers .entry))) (now (cells .entry))) address (now (bytes .entry)) ⌝ }
 {
-    let end = end_of_line(address);
+    let end = last_doubleword(address);
     let x = locate(Registers { bytes: *registers }, cells.len(), end);
     let judged = judge(x, judge_line(address, bytes.len()));
     match judged {

@@ -6,6 +6,9 @@ ghost use lib.ListN.{length, getD, set, take, drop};
 ghost use Rattle.ecc.specs.Doubleword.{bytesOfNumber};
 ghost use Rattle.machine.specs.Cells.{merge};
 
+// MEM-9: what a read without a bank gives.
+pub(crate) const ONES: u64 = 0xffffffffffffffff;
+
 // Eight lent bytes as a doubleword.
 pub(crate) fn joined(bytes: &[u8]) -> u64
     requires { ⌜ length (now bytes) ≡ 8 ⌝ }

@@ -1,4 +1,4 @@
-// The calls. Each is judged before its access is performed; the answer of the access is then reported to the error registers.
+// The calls of one access. Each is judged before its access is performed; the answer of the access is then reported to the error registers.
 ghost use mathlib.Core.Path.{_≡_};
 ghost use mathlib.Core.List.{[], _∷_};
 ghost use Rattle.refusals.specs.Paper.{paper, refused, given};
@@ -11,6 +11,7 @@ ghost use Rattle.machine.specs.Calls.{readCall, writeCall, flipCall, scrubCall}
 use crate::access;
 use crate::access::LENT;
 use crate::access::NO_COLUMNS;
+use crate::bytes::ONES;
 use crate::bytes::copy_out;
 use crate::judge::Judged;
 use crate::judge::judge;
@@ -68,7 +69,7 @@ pub fn read_in_place(
     match judged {
         Judged::Refused(x) => refuse(x),
         Judged::NoBank => {
-            copy_out(0xffffffffffffffff, 0, buffer);
+            copy_out(ONES, 0, buffer);
             report(registers, Kind::NoBank, address)
         }
         Judged::Cell(k) => {

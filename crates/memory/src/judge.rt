@@ -1,4 +1,4 @@
-// Whether a call is refused, and which cell its access goes to. Both are found before anything is changed.
+// Whether a call is refused, and which cell its access goes to; of a burst, the last cell of its line. Both are found before anything is changed.
 ghost use mathlib.Core.Path.{_≡_};
 ghost use Rattle.refusals.specs.Paper.{paperVerdict, _gives_};
 ghost use Rattle.banks.specs.Setup.{setupOf};

@@ -80,7 +80,7 @@ fn numbers_of(count: usize, parts: [Part; 4]) -> [u32; 5]
     ]
 }
 
-// What a read, write or scrub returns; the parts of an accepted call go to the lent numbers.
+// What a read, write, scrub or burst returns; the parts of an accepted call go to the lent numbers.
 pub fn give_answer(x: Answer, answer: &mut [u32; 5]) -> u32
     ensures { λ n. ⌜ (n, now (answer .exit)) ≡ returned answerNumbers (paperAnswer x) (now (answer .entry)) ⌝ }
 {

@@ -92,6 +92,18 @@ fn burst(call: &Call) -> Option<(bool, u32, usize)> {
     }
 }
 
+/// What a burst shows: its faults, or where it starts and what it meets.
+fn burst_kinds(layout: &Layout, flat: &mut FlatMachine, address: u32, count: usize) -> Vec<String> {
+    let faults = (address % 8 != 0, count != 32);
+    let mut kinds = vec![format!("faults {faults:?}")];
+    if faults == (false, false) {
+        kinds.push(format!("start {}", address % 32));
+        kinds.push(format!("marks {}", marks_met(flat, address)));
+        kinds.extend(line_kinds(layout, address & !31));
+    }
+    kinds
+}
+
 #[test]
 fn lists_have_bursts_of_all_sorts() {
     let mut seen = HashSet::new();
@@ -102,13 +114,7 @@ fn lists_have_bursts_of_all_sorts() {
         let mut flat = FlatMachine::of_record(&record).unwrap();
         for call in lists::list(rng, &record, 1500) {
             if let Some((is_write, address, count)) = burst(&call) {
-                let faults = (address % 8 != 0, count != 32);
-                let mut kinds = vec![format!("faults {faults:?}")];
-                if faults == (false, false) {
-                    kinds.push(format!("start {}", address % 32));
-                    kinds.push(format!("marks {}", marks_met(&mut flat, address)));
-                    kinds.extend(line_kinds(&layout, address & !31));
-                }
+                let kinds = burst_kinds(&layout, &mut flat, address, count);
                 seen.extend(kinds.into_iter().map(|kind| (is_write, kind)));
             }
             flat.step(&call);

@@ -1,4 +1,4 @@
-//! Each refusal once, its order among the others, and that it leaves everything
+//! Each refusal but those of bursts once, its order among the others, and that it leaves everything
 //! as it was.
 
 use model::map::{alike, map, way_back, Column, Row};
@@ -62,7 +62,7 @@ fn switching_on_refusals() {
     refused_write(with(&two_overlaps), 0xF2, 8, 14, Some(2));
 }
 
-/// All four memory calls get this refusal; nothing changes.
+/// Read, write, flip and scrub get this refusal; nothing changes.
 fn all_refused(record: &Record, lent: usize, address: u32, refusal: Refusal) {
     let mut after = *record;
     let mut cells = vec![0x5A; lent];
