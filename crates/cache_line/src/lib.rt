@@ -3,7 +3,7 @@
 ghost use mathlib.Core.Path.{_≡_};
 ghost use Rattle.refusals.specs.Paper.{paperVerdict};
 ghost use Rattle.calls.specs.Calls.{beatAddress};
-ghost use Rattle.calls.specs.Spans.{byLine};
+ghost use Rattle.calls.specs.Spans.{byBurst};
 ghost use Rattle.cache_line.specs.CodeLine.{lastDoubleword, cellInLine};
 use refusals::Refusal;
 use refusals::Verdict;
@@ -30,8 +30,8 @@ pub fn cell_in_line(k: usize, address: u32) -> usize
 }
 
 // REF-19, REF-20: what a burst at an address, of so many bytes, gets by its arguments.
-pub fn judge_line(address: u32, count: usize) -> Verdict
-    ensures { λ v. ⌜ paperVerdict v ≡ byLine address count ⌝ }
+pub fn judge_burst(address: u32, count: usize) -> Verdict
+    ensures { λ v. ⌜ paperVerdict v ≡ byBurst address count ⌝ }
 {
     if address % 8 != 0 {
         return Verdict::Refused(Refusal::Misaligned);

@@ -8,7 +8,7 @@ use lib.Dec.{ltb, eqb}
 use borrow.Author.Tests.{ltb-false, eqb-true, not-false}
 use Rattle.refusals.specs.Paper.{refuse}
 use Rattle.refusals.proofs.ChainLaws.{else-left, else-right, cause-fails}
-use Rattle.calls.specs.Spans.{byCount, byBit, byLine}
+use Rattle.calls.specs.Spans.{byCount, byBit, byBurst}
 
 -- an access that gets neither 6 nor 7 stays inside its doubleword
 pub count-fits : (a n : ℕ) → byCount a n ≡ none → a % 8 + n ≤ 8
@@ -21,9 +21,9 @@ unfolding byBit
 bit-fits b e = suc-le-suc (ltb-false 71 b (cause-fails (ltb 71 b) (8 ∷ []) e))
 
 -- a burst that gets neither 19 nor 20 is aligned, and has the bytes of a cache line
-pub line-fits : (a n : ℕ) → byLine a n ≡ none → (a % 8 ≡ 0) × (n ≡ 32)
-unfolding byLine
-line-fits a n e =
+pub burst-fits : (a n : ℕ) → byBurst a n ≡ none → (a % 8 ≡ 0) × (n ≡ 32)
+unfolding byBurst
+burst-fits a n e =
     let aligned = refuse (not (eqb (a % 8) 0)) (19 ∷ []) in
     let whole = refuse (not (eqb n 32)) (20 ∷ []) in (
       eqb-true _ _ (not-false (eqb (a % 8) 0) (cause-fails _ _ (else-left aligned whole e))),

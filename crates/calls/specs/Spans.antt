@@ -22,8 +22,8 @@ unfoldable pub byBit : ℕ → Declined
 byBit b = refuse (ltb 71 b) (8 ∷ [])
 
 -- REF-19, REF-20: the address of a burst, and how many bytes it has
-unfoldable pub byLine : ℕ → ℕ → Declined
-byLine a n = refuse (not (eqb (a % 8) 0)) (19 ∷ []) else refuse (not (eqb n 32)) (20 ∷ [])
+unfoldable pub byBurst : ℕ → ℕ → Declined
+byBurst a n = refuse (not (eqb (a % 8) 0)) (19 ∷ []) else refuse (not (eqb n 32)) (20 ∷ [])
 
 -- FLAT-6: refusals 6, 7, 8, 19 and 20, by the arguments alone
 unfoldable pub byArguments : MemoryCall → Declined
@@ -31,8 +31,8 @@ byArguments (read a n) = byCount a n
 byArguments (write a bs) = byCount a (length bs)
 byArguments (flip a b) = byBit b
 byArguments (scrub a) = none
-byArguments (burstRead a n) = byLine a n
-byArguments (burstWrite a bs) = byLine a (length bs)
+byArguments (burstRead a n) = byBurst a n
+byArguments (burstWrite a bs) = byBurst a (length bs)
 
 -- REF-10: a flip that selects no bank
 unfoldable pub bySpans : Spans → MemoryCall → Declined

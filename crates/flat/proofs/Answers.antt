@@ -19,7 +19,7 @@ use Rattle.error_registers.specs.Errors.{bitSet, undetected, withErrorAddress, 
 use Rattle.calls.specs.declared.Kind.{Kind}
 use Rattle.calls.specs.declared.Kind.the-variants.{Clean, Corrected, Uncorrectable, Stored, NoBank, Flipped}
 use Rattle.calls.specs.Calls.{read, write, flip, scrub, burstRead, burstWrite, beatAddress, parts, Got, got, Given, Call, memory, readRegister, writeRegister}
-use Rattle.calls.specs.Spans.{Spans, byCount, byBit, byLine, byArguments, bySpans, byCall, missed}
+use Rattle.calls.specs.Spans.{Spans, byCount, byBit, byBurst, byArguments, bySpans, byCall, missed}
 use Rattle.calls.specs.State.{state}
 use Rattle.machine.specs.Cells.{merge, readCell, mergeCell, writeCell, scrubCell, onCell}
 use Rattle.machine.specs.Calls.{spansOf, unlentAt, unlent, refusal, onTarget, accessAt, access, accesses, performed, memoryCall}
@@ -220,7 +220,7 @@ unfolding bankOff bankOn startOf lastOf enabledOf rowBits megabytes fits columnB
     faulty faultOf meets meetsLower lowestMeeting judged ready notReady holds bankAt cells cellInBank rowOf columnOf share cellsBelow placeOf inSpan located
     cellOf listed readOnly badValue locked clearing switchesOn declined newByte written bitAt dataBit flipColumn xorOf checkOf syndromeOf bitReading readingOf
     maskOf flipBit encode rightBy cellReading loadOf cellAt putCell isLent bitSet undetected withErrorAddress detected triggered rose counted reported beatAddress parts byCount
-    byBit byLine byArguments bySpans byCall missed merge readCell mergeCell writeCell scrubCell onCell unlentAt unlent refusal onTarget accessAt access accesses
+    byBit byBurst byArguments bySpans byCall missed merge readCell mergeCell writeCell scrubCell onCell unlentAt unlent refusal onTarget accessAt access accesses
     performed memoryCall call run blank withBytes withMark flatInSpan flatAccess flatAccesses flatPerformed flatCall flatRun acceptedOf flips renews anyOf
     reach reachOf reachAll slipping octet isAtErrorRegisters allAtErrorRegisters renewedBefore eachRenewed isSpaced
 computed =

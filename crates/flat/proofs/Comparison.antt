@@ -19,7 +19,7 @@ use Rattle.ecc.proofs.ColumnLaws.{columns-accepted}
 use Rattle.calls.specs.Calls.{MemoryCall, read, write, flip, scrub, burstRead, burstWrite, Access, addressOf, beatAddress, beatBytes, parts, Got, Given, Call, memory, readRegister, writeRegister}
 use Rattle.calls.specs.Spans.{Spans, byArguments, bySpans, byCall}
 use Rattle.calls.specs.State.{State, state}
-use Rattle.calls.proofs.SpanLaws.{count-fits, bit-fits, line-fits}
+use Rattle.calls.proofs.SpanLaws.{count-fits, bit-fits, burst-fits}
 use Rattle.calls.proofs.BeatLaws.{beat-aligned, beat-length}
 use Rattle.machine.specs.Calls.{spansOf, unlentAt, unlent, refusal, access, accesses, performed, memoryCall}
 use Rattle.call_lists.specs.Lists.{call, run}
@@ -37,10 +37,10 @@ arguments-allowed (write a bs) e = (count-fits a (length bs) e, tt)
 arguments-allowed (flip a b) e = (bit-fits b e, tt)
 arguments-allowed (scrub a) e = (tt, tt)
 arguments-allowed (burstRead a n) e =
-    let beat : (i : ℕ) → beatAddress a i % 8 + 8 ≤ 8 = λ i. omega (arith, beat-aligned a i (line-fits a n e .0)) in
+    let beat : (i : ℕ) → beatAddress a i % 8 + 8 ≤ 8 = λ i. omega (arith, beat-aligned a i (burst-fits a n e .0)) in
     (beat 0, (beat 1, (beat 2, (beat 3, tt))))
 arguments-allowed (burstWrite a bs) e =
-    let h = line-fits a (length bs) e in
+    let h = burst-fits a (length bs) e in
     let beat : (i : ℕ) → i < 4 → beatAddress a i % 8 + length (beatBytes bs i) ≤ 8 = λ i l. omega (arith, beat-aligned a i (h .0), beat-length bs i (h .1) l) in
     (beat 0 (omega arith), (beat 1 (omega arith), (beat 2 (omega arith), (beat 3 (omega arith), tt))))
 

@@ -17,6 +17,7 @@ use Rattle.ecc.proofs.Laws.{encode-length, flip-length, load-clean, load-flippe
 use Rattle.calls.specs.declared.Kind.the-variants.{Clean, Corrected}
 use Rattle.calls.specs.Calls.{Access, readIn, writeIn, flipIn, scrubIn, addressOf, got}
 use Rattle.machine.specs.Cells.{answerOf, merge, readCell, unlessLost, mergeCell, writeCell, ifCorrected, scrubCell, onCell}
+use Rattle.machine.proofs.StoredLaws.{after}
 use Rattle.flat.specs.Flat.{Flat, byMark, withMark, flatInSpan}
 use Rattle.flat.proofs.Octets.{octet, octet-length, octet-read, octet-merge, octet-whole, octet-other}
 
@@ -76,11 +77,6 @@ marks-below f (readIn a n) r h = h
 marks-below f (writeIn a bs) r h = mark-below (f .mark) (a / 8) none tt h
 marks-below f (flipIn a b) r h = mark-below (f .mark) (a / 8) (some b) r h
 marks-below f (scrubIn a) r h = mark-below (f .mark) (a / 8) none tt h
-
--- the nine bytes that an access leaves
-abbrev pub after : Option (List ℕ) → List ℕ → List ℕ
-after none cell = cell
-after (some new) cell = new
 
 module _ (cols : List ℕ) (good : accepted cols ≡ true) where
   -- the nine bytes of a doubleword with the mark m and the bytes d

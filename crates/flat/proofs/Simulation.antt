@@ -16,7 +16,7 @@ use Rattle.ecc.specs.Columns.{accepted}
 use Rattle.ecc.specs.Cell.{encode}
 use Rattle.ecc.specs.Lending.{cellAt, isLent}
 use Rattle.ecc.proofs.Laws.{encode-zeros}
-use Rattle.ecc.proofs.CellLaws.{fits-lent, put-length, put-same, put-other, cell-zeros}
+use Rattle.ecc.proofs.CellLaws.{fits-lent, put-same, put-other, cell-zeros}
 use Rattle.calls.specs.Calls.{Access, addressOf, Got}
 use Rattle.calls.specs.Spans.{missed}
 use Rattle.calls.specs.State.{State, state}
@@ -25,15 +25,12 @@ use Rattle.machine.specs.Cells.{onCell}
 use Rattle.machine.specs.Calls.{spansOf, putAt, onTarget, access, accessAt}
 use Rattle.flat.specs.Flat.{Flat, flatInSpan, flatAccess, blank}
 use Rattle.flat.proofs.Octets.{octet, octet-length, octet-zero}
-use Rattle.flat.proofs.Doubleword.{Allowed, FindsNoMark, MarksBelow72, marks-below, Untouched, others-untouched, after, coded, coded-length, StandsFor, Agree, agree}
+use Rattle.flat.proofs.Doubleword.{Allowed, FindsNoMark, MarksBelow72, marks-below, Untouched, others-untouched, coded, coded-length, StandsFor, Agree, agree}
 use Rattle.machine.proofs.SetupLaws.{setup-reported}
+use Rattle.machine.proofs.StoredLaws.{after, put-at-length}
 
 -- the cells after what an access stored in cell k
 module _ (cells : List ℕ) (k : ℕ) (lent : isLent cells k ≡ true) where
-  put-at-length : (o : Option (List ℕ)) → length (after o (cellAt cells k)) ≡ 9 → length (putAt o cells k) ≡ length cells
-  put-at-length none h = refl
-  put-at-length (some cell) h = put-length cells k cell lent h
-
   put-at-same : (o : Option (List ℕ)) → length (after o (cellAt cells k)) ≡ 9 → cellAt (putAt o cells k) k ≡ after o (cellAt cells k)
   put-at-same none h = refl
   put-at-same (some cell) h = put-same cells k cell lent h

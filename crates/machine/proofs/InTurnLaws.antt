@@ -1,77 +1,34 @@
 -- MEM-16: an accepted call is its accesses as single calls, one after the other.
-use Prim.Native.Nat.{ℕ, _+_, _%_, _≤_, _<_}
+use Prim.Native.Nat.{ℕ, _%_, _<_}
 use mathlib.Core.Path.{_≡_, refl, _∙_}
 use mathlib.Core.Option.{Option, none, some}
 use mathlib.Core.List.{List, [], _∷_}
 use native.Mathlib.Omega.{arith}
-use borrow.Author.Tests.{eqb-true}
-use lib.Dec.{eqb}
-use lib.ListN.{length, length-append, length-drop}
-use lib.Seq.{length-take-le}
-use Rattle.basics.proofs.RangeLaws.{byCases}
+use lib.ListN.{length}
 use Rattle.refusals.specs.Paper.{Declined, _else_, given}
 use Rattle.refusals.proofs.ChainLaws.{else-left, else-right}
 use Rattle.banks.specs.Judge.{notReady}
 use Rattle.banks.specs.Map.{cellOf}
-use Rattle.ecc.specs.declared.Reading.{Reading}
-use Rattle.ecc.specs.declared.Reading.the-variants as reading
-use Rattle.ecc.specs.Cell.{encode, loadOf}
 use Rattle.ecc.specs.Lending.{cellAt}
-use Rattle.ecc.proofs.Laws.{flip-length, load-length, encode-length}
-use Rattle.ecc.proofs.CellLaws.{lent-same, cell-length, put-length}
+use Rattle.ecc.proofs.CellLaws.{lent-same, cell-length}
 use Rattle.calls.specs.Calls.{MemoryCall, read, write, flip, scrub, burstRead, burstWrite, Access, readIn, writeIn, flipIn, scrubIn, addressOf, beatAddress, beatBytes, parts}
-use Rattle.calls.specs.Spans.{Spans, byCount, byLine, byArguments, bySpans, byCall}
+use Rattle.calls.specs.Spans.{Spans, byCount, byBurst, byArguments, bySpans, byCall}
 use Rattle.calls.specs.State.{State}
-use Rattle.calls.proofs.SpanLaws.{count-fits, line-fits}
+use Rattle.calls.proofs.SpanLaws.{burst-fits}
 use Rattle.calls.proofs.BeatLaws.{beat-aligned, beat-length}
-use Rattle.machine.specs.Cells.{merge, readCell, unlessLost, mergeCell, writeCell, ifCorrected, scrubCell, onCell}
-use Rattle.machine.specs.Calls.{setup, spansOf, unlentAt, unlent, refusal, putAt, onTarget, accessAt, access, accesses, performed, memoryCall}
+use Rattle.machine.specs.Cells.{onCell}
+use Rattle.machine.specs.Calls.{setup, spansOf, unlentAt, unlent, refusal, onTarget, accessAt, access, accesses, performed, memoryCall}
 use Rattle.machine.specs.InTurn.{single, singles, inTurn, AcceptedInTurn}
-use Rattle.machine.proofs.SetupLaws.{setup-reported}
+use Rattle.machine.proofs.SetupLaws.{setup-after}
+use Rattle.machine.proofs.StoredLaws.{put-at-length, stored-length}
 use Rattle.machine.proofs.LendingLaws.{lent-of}
-
--- ---- an access stores nine bytes or none, so what is lent stays lent
-
-abbrev NineIfAny : Option (List ℕ) → Type 0
-NineIfAny none = Unit {0}
-NineIfAny (some cell) = length cell ≡ 9
-
-put-at-length : (cells : List ℕ) (k : ℕ) (o : Option (List ℕ)) → unlentAt (some k) cells ≡ none → NineIfAny o → length (putAt o cells k) ≡ length cells
-put-at-length cells k none u h = refl
-put-at-length cells k (some cell) u h = put-length cells k cell (lent-of cells k u) h
-
-merge-length : (o : ℕ) (bs d : List ℕ) → o + length bs ≤ 8 → length d ≡ 8 → length (merge o bs d) ≡ 8
-unfolding merge
-merge-length o bs d h l =
-    rw (length-append, length-append) (omega (arith, length-take-le o d (omega arith), length-drop (o + length bs) d))
-
-module _ (cols cell : List ℕ) (nine : length cell ≡ 9) where
-  unless-lost : (r : Reading) (d : List ℕ) → length d ≡ 8 → NineIfAny (unlessLost r (encode cols d))
-  unless-lost reading.Clean d l = encode-length cols d l
-  unless-lost (reading.Corrected b) d l = encode-length cols d l
-  unless-lost reading.Uncorrectable d l = tt
-
-  if-corrected : (r : Reading) (d : List ℕ) → length d ≡ 8 → NineIfAny (ifCorrected r (encode cols d))
-  if-corrected reading.Clean d l = tt
-  if-corrected (reading.Corrected b) d l = encode-length cols d l
-  if-corrected reading.Uncorrectable d l = tt
-
-  stored-length : (x : Access) → byArguments (single x) ≡ none → NineIfAny (onCell cols x cell .1)
-  unfolding onCell readCell writeCell mergeCell scrubCell byArguments
-  stored-length (readIn a n) e = tt
-  stored-length (writeIn a bs) e =
-      let loaded = loadOf cols cell in
-      byCases (eqb (length bs) 8) (λ t. rw t (encode-length cols bs (eqb-true (length bs) 8 t)))
-      (λ t. rw t (unless-lost (loaded .reading) (merge (a % 8) bs (loaded .bytes)) (merge-length (a % 8) bs (loaded .bytes) (count-fits a (length bs) e) (load-length cols cell nine))))
-  stored-length (flipIn a b) e = flip-length cell b ∙ nine
-  stored-length (scrubIn a) e = if-corrected (loadOf cols cell .reading) (loadOf cols cell .bytes) (load-length cols cell nine)
 
 -- ---- what an access leaves as it was
 
 module _ (cols : List ℕ) where
   access-setup : (st : State) (x : Access) → setup (access cols st x .1) ≡ setup st
-  unfolding access accessAt
-  access-setup st x = setup-reported _ (addressOf x) (st .registers)
+  unfolding access
+  access-setup st x = setup-after cols (cellOf (setup st) (addressOf x)) st x
 
   access-lent : (st : State) (x : Access) → byArguments (single x) ≡ none → unlentAt (cellOf (setup st) (addressOf x)) (st .cells) ≡ none
       → length (access cols st x .1 .cells) ≡ length (st .cells)
@@ -81,8 +38,8 @@ module _ (cols : List ℕ) where
       go : (o : Option ℕ) → unlentAt o (st .cells) ≡ none → length (accessAt cols o st x .1 .cells) ≡ length (st .cells)
       go none u = refl
       go (some k) u =
-          let nine = cell-length (st .cells) k (lent-of (st .cells) k u) in
-          put-at-length (st .cells) k (onCell cols x (cellAt (st .cells) k) .1) u (stored-length cols (cellAt (st .cells) k) nine x e)
+          let lent = lent-of (st .cells) k u in
+          put-at-length (st .cells) k lent (onCell cols x (cellAt (st .cells) k) .1) (stored-length cols (cellAt (st .cells) k) (cell-length (st .cells) k lent) x e)
 
 unlent-same : (xs : List Access) (st st′ : State) → setup st′ ≡ setup st → length (st′ .cells) ≡ length (st .cells) → unlent st′ xs ≡ unlent st xs
 unfolding unlent unlentAt
@@ -95,7 +52,7 @@ unlent-same (x ∷ xs) st st′ s l = rw (s, go (cellOf (setup st) (addressOf x)
 
 -- ---- single calls
 
-single-parts : (x : Access) → parts (single x) ≡ x ∷ []
+pub single-parts : (x : Access) → parts (single x) ≡ x ∷ []
 unfolding parts
 single-parts (readIn a n) = refl
 single-parts (writeIn a bs) = refl
@@ -118,10 +75,10 @@ singles-accepted spans (write a bs) e = rw e
 singles-accepted spans (flip a b) e = rw e
 singles-accepted spans (scrub a) e = refl
 singles-accepted spans (burstRead a n) e =
-    let h = line-fits a n (else-left (byLine a n) none e) .0 in
+    let h = burst-fits a n (else-left (byBurst a n) none e) .0 in
     rw (beat-accepted a 0 8 h refl, beat-accepted a 1 8 h refl, beat-accepted a 2 8 h refl, beat-accepted a 3 8 h refl)
 singles-accepted spans (burstWrite a bs) e =
-    let h = line-fits a (length bs) (else-left (byLine a (length bs)) none e) in
+    let h = burst-fits a (length bs) (else-left (byBurst a (length bs)) none e) in
     let beat : (i : ℕ) → i < 4 → byCount (beatAddress a i) (length (beatBytes bs i)) ≡ none = λ i l. beat-accepted a i _ (h .0) (beat-length bs i (h .1) l) in
     rw (beat 0 (omega arith), beat 1 (omega arith), beat 2 (omega arith), beat 3 (omega arith))
 

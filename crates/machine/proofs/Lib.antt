@@ -1,4 +1,5 @@
 pub mod SetupLaws
 pub mod LendingLaws
 pub mod FlipLaws
+pub mod StoredLaws
 pub mod InTurnLaws

@@ -13,10 +13,10 @@ use Rattle.calls.specs.declared.Kind.{Kind}
 use Rattle.calls.specs.declared.Kind.the-variants.{NoBank}
 use Rattle.calls.specs.Answers.{Effect, effectOf}
 use Rattle.calls.specs.Calls.{MemoryCall, burstRead, burstWrite, Access, readIn, writeIn, addressOf, beatAddress, beatBytes, fourBeats, parts, Got, got}
-use Rattle.calls.specs.Spans.{byLine, byArguments, bySpans, byCall, missed}
+use Rattle.calls.specs.Spans.{byBurst, byArguments, bySpans, byCall, missed}
 use Rattle.calls.specs.State.{State, state}
 use Rattle.machine.specs.Calls.{setup, spansOf, unlentAt, unlent, refusal, onTarget, accessAt, access, accesses, performed, memoryCall, called}
-use Rattle.machine.proofs.SetupLaws.{setup-reported}
+use Rattle.machine.proofs.SetupLaws.{setup-after}
 use Rattle.memory.specs.CodeJudged.{judgedAt}
 use Rattle.cache_line.specs.CodeLine.{lastDoubleword}
 use Rattle.memory.proofs.LineLaws.{inLine, beat-cells, end-is-last, line-unlent}
@@ -47,11 +47,11 @@ module _ (st : State) (a : ℕ) where
   unfolding refusal byCall judgedAt
   burst-refusal c beat at p h = rw (p, h, else-none (byArguments c), beats-lent beat at)
 
-  pub burst-read-refusal : (n : ℕ) → refusal st (burstRead a n) ≡ judgedAt st (lastDoubleword a) (byLine a n)
+  pub burst-read-refusal : (n : ℕ) → refusal st (burstRead a n) ≡ judgedAt st (lastDoubleword a) (byBurst a n)
   unfolding parts bySpans byArguments
   burst-read-refusal n = burst-refusal (burstRead a n) (λ i. readIn (beatAddress a i) 8) (λ i. refl) refl refl
 
-  pub burst-write-refusal : (bs : List ℕ) → refusal st (burstWrite a bs) ≡ judgedAt st (lastDoubleword a) (byLine a (length bs))
+  pub burst-write-refusal : (bs : List ℕ) → refusal st (burstWrite a bs) ≡ judgedAt st (lastDoubleword a) (byBurst a (length bs))
   unfolding parts bySpans byArguments
   burst-write-refusal bs = burst-refusal (burstWrite a bs) (λ i. writeIn (beatAddress a i) (beatBytes bs i)) (λ i. refl) refl refl
 
@@ -70,8 +70,7 @@ Does cols st x o g next = _≡_ {A = Got × State} (g, next) (accessAt cols o st
 
 module _ (cols : List ℕ) (st next : State) (x : Access) (o : Option ℕ) (g : Got) (does : Does cols st x o g next) where
   same-setup : setup next ≡ setup st
-  unfolding accessAt
-  same-setup = ap (λ (p : Got × State). setup (p .1)) does ∙ setup-reported _ (addressOf x) (st .registers)
+  same-setup = ap (λ (p : Got × State). setup (p .1)) does ∙ setup-after cols o st x
 
   one-more : cellOf (setup st) (addressOf x) ≡ o → (xs : List Access) → accesses cols st (x ∷ xs) ≡ (g ∷ accesses cols next xs .0, accesses cols next xs .1)
   unfolding accesses access

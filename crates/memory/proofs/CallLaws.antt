@@ -14,7 +14,7 @@ use Rattle.banks.specs.Judge.{notReady}
 use Rattle.banks.specs.Map.{inSpan, located, cellOf}
 use Rattle.banks.proofs.MapLaws.{isSome}
 use Rattle.calls.specs.declared.Kind.{Kind}
-use Rattle.calls.specs.Calls.{MemoryCall, read, write, flip, scrub, Access, readIn, writeIn, flipIn, scrubIn, addressOf, parts, got}
+use Rattle.calls.specs.Calls.{MemoryCall, read, write, flip, scrub, Access, readIn, writeIn, scrubIn, addressOf, parts, got}
 use Rattle.calls.specs.Spans.{byCount, byBit, byArguments, bySpans, byCall}
 use Rattle.calls.specs.State.{State, state}
 use Rattle.calls.specs.Answers.{Effect}
@@ -77,22 +77,6 @@ module _ (st : State) (a : ℕ) where
   pub scrub-refusal : refusal st (scrub a) ≡ judgedAt st a none
   unfolding parts bySpans byArguments
   scrub-refusal = refusal-at st (scrub a) (scrubIn a) refl refl
-
-pub read-part : (a n : ℕ) → parts (read a n) ≡ readIn a n ∷ []
-unfolding parts
-read-part a n = refl
-
-pub write-part : (a : ℕ) (bs : List ℕ) → parts (write a bs) ≡ writeIn a bs ∷ []
-unfolding parts
-write-part a bs = refl
-
-pub flip-part : (a b : ℕ) → parts (flip a b) ≡ flipIn a b ∷ []
-unfolding parts
-flip-part a b = refl
-
-pub scrub-part : (a : ℕ) → parts (scrub a) ≡ scrubIn a ∷ []
-unfolding parts
-scrub-part a = refl
 
 -- a judged call is not refused before its cell is looked at
 pub judged-arguments : (st : State) (a : ℕ) (d : Declined) → judgedAt st a d ≡ none → d ≡ none

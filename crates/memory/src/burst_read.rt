@@ -33,7 +33,7 @@ use crate::judge::locate;
 use crate::lent::doubleword_at;
 use cache_line::beat_address;
 use cache_line::cell_in_line;
-use cache_line::judge_line;
+use cache_line::judge_burst;
 use cache_line::last_doubleword;
 use calls::Answer;
 use calls::Kind;
@@ -152,7 +152,7 @@ pub fn burst_read_in_place(
 {
     let end = last_doubleword(address);
     let x = locate(Registers { bytes: *registers }, cells.len(), end);
-    let judged = judge(x, judge_line(address, buffer.len()));
+    let judged = judge(x, judge_burst(address, buffer.len()));
     match judged {
         Judged::Refused(x) => refuse(x),
         Judged::NoBank => {

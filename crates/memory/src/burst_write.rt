@@ -29,7 +29,7 @@ use crate::judge::judge;
 use crate::judge::locate;
 use cache_line::beat_address;
 use cache_line::cell_in_line;
-use cache_line::judge_line;
+use cache_line::judge_burst;
 use cache_line::last_doubleword;
 use calls::Answer;
 use calls::Kind;
@@ -69,7 +69,7 @@ pub fn burst_write_in_place(
 {
     let end = last_doubleword(address);
     let x = locate(Registers { bytes: *registers }, cells.len(), end);
-    let judged = judge(x, judge_line(address, bytes.len()));
+    let judged = judge(x, judge_burst(address, bytes.len()));
     match judged {
         Judged::Refused(x) => refuse(x),
         Judged::NoBank => miss_beats(registers, address),

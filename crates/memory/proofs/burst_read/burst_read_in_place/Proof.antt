@@ -6,8 +6,8 @@ use Rattle.ecc.specs.Columns.{columns}
 use Rattle.ecc.specs.Doubleword.{bytesOfNumber}
 use Rattle.calls.specs.State.{state}
 use Rattle.calls.specs.Calls.{burstRead}
-use Rattle.calls.specs.Spans.{byLine}
-use Rattle.calls.proofs.SpanLaws.{line-fits}
+use Rattle.calls.specs.Spans.{byBurst}
+use Rattle.calls.proofs.SpanLaws.{burst-fits}
 use Rattle.cache_line.specs.CodeLine.{lastDoubleword}
 use Rattle.memory.proofs.JudgeLaws.{judged-as}
 use Rattle.memory.proofs.CallLaws.{called-refused, judged-arguments}
@@ -21,16 +21,16 @@ copy-line-requires c κs =
     let a = c .before .before .before .before .before .before .before .before .before .before .args in
     let st = state (recordOf (a .registers .now)) (a .cells .now) in
     let end = lastDoubleword (a .address) in
-    let j = judged-as st end _ (c .before .before .before .before .judge-line .result) _ (rw (c .before .before .before .before .before .before .before .last-doubleword .ensures) at (c .before .before .before .before .before .locate .ensures)) (c .before .before .before .judge .ensures) (c .before .enum-told .given .1) (c .before .before .before .before .judge-line .ensures) in
-    line-fits (a .address) (length (a .buffer .now)) (judged-arguments st end (byLine (a .address) (length (a .buffer .now))) (j .0)) .1
+    let j = judged-as st end _ (c .before .before .before .before .judge-burst .result) _ (rw (c .before .before .before .before .before .before .before .last-doubleword .ensures) at (c .before .before .before .before .before .locate .ensures)) (c .before .before .before .judge .ensures) (c .before .enum-told .given .1) (c .before .before .before .before .judge-burst .ensures) in
+    burst-fits (a .address) (length (a .buffer .now)) (judged-arguments st end (byBurst (a .address) (length (a .buffer .now))) (j .0)) .1
 
 read-beats-requires : tie.Need-read-beats-requires
 read-beats-requires c κs =
     let a = c .before .before .before .before .before .before .before .before .before .before .before .before .args in
     let st = state (recordOf (a .registers .now)) (a .cells .now) in
     let end = lastDoubleword (a .address) in
-    let j = judged-as st end _ (c .before .before .before .before .before .before .judge-line .result) _ (rw (c .before .before .before .before .before .before .before .before .before .last-doubleword .ensures) at (c .before .before .before .before .before .before .before .locate .ensures)) (c .before .before .before .before .before .judge .ensures) (c .before .before .before .judged2 .given .1) (c .before .before .before .before .before .before .judge-line .ensures) in
-    let h = line-fits (a .address) (length (a .buffer .now)) (judged-arguments st end (byLine (a .address) (length (a .buffer .now))) (j .0)) in
+    let j = judged-as st end _ (c .before .before .before .before .before .before .judge-burst .result) _ (rw (c .before .before .before .before .before .before .before .before .before .last-doubleword .ensures) at (c .before .before .before .before .before .before .before .locate .ensures)) (c .before .before .before .before .before .judge .ensures) (c .before .before .before .judged2 .given .1) (c .before .before .before .before .before .before .judge-burst .ensures) in
+    let h = burst-fits (a .address) (length (a .buffer .now)) (judged-arguments st end (byBurst (a .address) (length (a .buffer .now))) (j .0)) in
     (j .2, j .1, h .0, h .1)
 
 returns : tie.Need-returns
@@ -38,7 +38,7 @@ returns c =
     let a = c .before .before .before .before .before .before .before .before .before .before .before .args in
     let st = state (recordOf (a .registers .now)) (a .cells .now) in
     let end = lastDoubleword (a .address) in
-    let j = judged-as st end _ (c .before .before .before .before .before .judge-line .result) _ (rw (c .before .before .before .before .before .before .before .before .last-doubleword .ensures) at (c .before .before .before .before .before .before .locate .ensures)) (c .before .before .before .before .judge .ensures) (c .before .before .judged .given .1) (c .before .before .before .before .before .judge-line .ensures) in
+    let j = judged-as st end _ (c .before .before .before .before .before .judge-burst .result) _ (rw (c .before .before .before .before .before .before .before .before .last-doubleword .ensures) at (c .before .before .before .before .before .before .locate .ensures)) (c .before .before .before .before .judge .ensures) (c .before .before .judged .given .1) (c .before .before .before .before .before .judge-burst .ensures) in
     simp (c .refuse .ensures) (sym (called-refused columns st (burstRead (a .address) (length (a .buffer .now))) (a .buffer .now) (paper (c .before .before .judged .given .0 .0)) (burst-read-refusal st (a .address) (length (a .buffer .now)) ∙ j)))
 
 returns-2 : tie.Need-returns-2
@@ -47,7 +47,7 @@ returns-2 c =
     let a = c .before .before .before .before .before .before .before .before .before .before .before .before .before .before .before .args in
     let st = state (recordOf (a .registers .now)) (a .cells .now) in
     let end = lastDoubleword (a .address) in
-    let j = judged-as st end _ (c .before .before .before .before .before .before .before .before .before .judge-line .result) _ (rw (c .before .before .before .before .before .before .before .before .before .before .before .before .last-doubleword .ensures) at (c .before .before .before .before .before .before .before .before .before .before .locate .ensures)) (c .before .before .before .before .before .before .before .before .judge .ensures) (c .before .before .before .before .before .before .enum-told .given .1) (c .before .before .before .before .before .before .before .before .before .judge-line .ensures) in
+    let j = judged-as st end _ (c .before .before .before .before .before .before .before .before .before .judge-burst .result) _ (rw (c .before .before .before .before .before .before .before .before .before .before .before .before .last-doubleword .ensures) at (c .before .before .before .before .before .before .before .before .before .before .locate .ensures)) (c .before .before .before .before .before .before .before .before .judge .ensures) (c .before .before .before .before .before .before .enum-told .given .1) (c .before .before .before .before .before .before .before .before .before .judge-burst .ensures) in
     let n = length (a .buffer .now) in
     rw (c .miss-beats .ensures .0, c .miss-beats .ensures .1, c .before .before .before .before .copy-line .ensures)
     (sym (burst-read-done columns st (a .address) n (a .buffer .now) (burst-read-refusal st (a .address) n ∙ j .0) ∙ read-missed columns st (a .address) (j .1)))
@@ -57,7 +57,7 @@ returns-3 c =
     let a = c .before .before .before .before .before .before .before .before .before .before .before .before .before .before .before .args in
     let st = state (recordOf (a .registers .now)) (a .cells .now) in
     let end = lastDoubleword (a .address) in
-    let j = judged-as st end _ (c .before .before .before .before .before .before .before .before .before .judge-line .result) _ (rw (c .before .before .before .before .before .before .before .before .before .before .before .before .last-doubleword .ensures) at (c .before .before .before .before .before .before .before .before .before .before .locate .ensures)) (c .before .before .before .before .before .before .before .before .judge .ensures) (c .before .before .before .before .before .before .judged2 .given .1) (c .before .before .before .before .before .before .before .before .before .judge-line .ensures) in
+    let j = judged-as st end _ (c .before .before .before .before .before .before .before .before .before .judge-burst .result) _ (rw (c .before .before .before .before .before .before .before .before .before .before .before .before .last-doubleword .ensures) at (c .before .before .before .before .before .before .before .before .before .before .locate .ensures)) (c .before .before .before .before .before .before .before .before .judge .ensures) (c .before .before .before .before .before .before .judged2 .given .1) (c .before .before .before .before .before .before .before .before .before .judge-burst .ensures) in
     let n = length (a .buffer .now) in
     c .before .before .read-beats .ensures ∙ sym (burst-read-done columns st (a .address) n (a .buffer .now) (burst-read-refusal st (a .address) n ∙ j .0))
 

@@ -6,8 +6,8 @@ use Rattle.registers.specs.Record.{recordOf}
 use Rattle.ecc.specs.Columns.{columns}
 use Rattle.calls.specs.State.{state}
 use Rattle.calls.specs.Calls.{burstWrite}
-use Rattle.calls.specs.Spans.{byLine}
-use Rattle.calls.proofs.SpanLaws.{line-fits}
+use Rattle.calls.specs.Spans.{byBurst}
+use Rattle.calls.proofs.SpanLaws.{burst-fits}
 use Rattle.cache_line.specs.CodeLine.{lastDoubleword}
 use Rattle.memory.proofs.LineLaws.{end-is-last}
 use Rattle.memory.proofs.JudgeLaws.{judged-as}
@@ -22,15 +22,15 @@ write-beats-requires c κs =
     let a = c .before .before .before .before .before .before .before .before .before .before .before .args in
     let st = state (recordOf (a .registers .now)) (a .cells .now) in
     let end = lastDoubleword (a .address) in
-    let j = judged-as st end _ (c .before .before .before .before .before .judge-line .result) _ (rw (c .before .before .before .before .before .before .before .before .last-doubleword .ensures) at (c .before .before .before .before .before .before .locate .ensures)) (c .before .before .before .before .judge .ensures) (c .before .before .judged2 .given .1) (c .before .before .before .before .before .judge-line .ensures) in
-    (j .2, end-is-last (st .registers) (a .address) _ (j .1), line-fits (a .address) (length (a .bytes .now)) (judged-arguments st end (byLine (a .address) (length (a .bytes .now))) (j .0)) .1)
+    let j = judged-as st end _ (c .before .before .before .before .before .judge-burst .result) _ (rw (c .before .before .before .before .before .before .before .before .last-doubleword .ensures) at (c .before .before .before .before .before .before .locate .ensures)) (c .before .before .before .before .judge .ensures) (c .before .before .judged2 .given .1) (c .before .before .before .before .before .judge-burst .ensures) in
+    (j .2, end-is-last (st .registers) (a .address) _ (j .1), burst-fits (a .address) (length (a .bytes .now)) (judged-arguments st end (byBurst (a .address) (length (a .bytes .now))) (j .0)) .1)
 
 returns : tie.Need-returns
 returns c =
     let a = c .before .before .before .before .before .before .before .before .before .before .before .args in
     let st = state (recordOf (a .registers .now)) (a .cells .now) in
     let end = lastDoubleword (a .address) in
-    let j = judged-as st end _ (c .before .before .before .before .before .judge-line .result) _ (rw (c .before .before .before .before .before .before .before .before .last-doubleword .ensures) at (c .before .before .before .before .before .before .locate .ensures)) (c .before .before .before .before .judge .ensures) (c .before .before .judged .given .1) (c .before .before .before .before .before .judge-line .ensures) in
+    let j = judged-as st end _ (c .before .before .before .before .before .judge-burst .result) _ (rw (c .before .before .before .before .before .before .before .before .last-doubleword .ensures) at (c .before .before .before .before .before .before .locate .ensures)) (c .before .before .before .before .judge .ensures) (c .before .before .judged .given .1) (c .before .before .before .before .before .judge-burst .ensures) in
     simp (c .refuse .ensures) (sym (called-refused columns st (burstWrite (a .address) (a .bytes .now)) [] (paper (c .before .before .judged .given .0 .0)) (burst-write-refusal st (a .address) (a .bytes .now) ∙ j)))
 
 returns-2 : tie.Need-returns-2
@@ -38,7 +38,7 @@ returns-2 c =
     let a = c .before .before .before .before .before .before .before .before .before .before .before .args in
     let st = state (recordOf (a .registers .now)) (a .cells .now) in
     let end = lastDoubleword (a .address) in
-    let j = judged-as st end _ (c .before .before .before .before .before .judge-line .result) _ (rw (c .before .before .before .before .before .before .before .before .last-doubleword .ensures) at (c .before .before .before .before .before .before .locate .ensures)) (c .before .before .before .before .judge .ensures) (c .before .before .enum-told .given .1) (c .before .before .before .before .before .judge-line .ensures) in
+    let j = judged-as st end _ (c .before .before .before .before .before .judge-burst .result) _ (rw (c .before .before .before .before .before .before .before .before .last-doubleword .ensures) at (c .before .before .before .before .before .before .locate .ensures)) (c .before .before .before .before .judge .ensures) (c .before .before .enum-told .given .1) (c .before .before .before .before .before .judge-burst .ensures) in
     let bs = a .bytes .now in
     rw (c .miss-beats .ensures .0, c .miss-beats .ensures .1)
     (sym (burst-write-done columns st (a .address) bs (burst-write-refusal st (a .address) bs ∙ j .0) ∙ write-missed columns st (a .address) (j .1) bs))
@@ -48,7 +48,7 @@ returns-3 c =
     let a = c .before .before .before .before .before .before .before .before .before .before .before .before .before .before .args in
     let st = state (recordOf (a .registers .now)) (a .cells .now) in
     let end = lastDoubleword (a .address) in
-    let j = judged-as st end _ (c .before .before .before .before .before .before .before .before .judge-line .result) _ (rw (c .before .before .before .before .before .before .before .before .before .before .before .last-doubleword .ensures) at (c .before .before .before .before .before .before .before .before .before .locate .ensures)) (c .before .before .before .before .before .before .before .judge .ensures) (c .before .before .before .before .before .judged2 .given .1) (c .before .before .before .before .before .before .before .before .judge-line .ensures) in
+    let j = judged-as st end _ (c .before .before .before .before .before .before .before .before .judge-burst .result) _ (rw (c .before .before .before .before .before .before .before .before .before .before .before .last-doubleword .ensures) at (c .before .before .before .before .before .before .before .before .before .locate .ensures)) (c .before .before .before .before .before .before .before .judge .ensures) (c .before .before .before .before .before .judged2 .given .1) (c .before .before .before .before .before .before .before .before .judge-burst .ensures) in
     let bs = a .bytes .now in
     c .before .before .write-beats .ensures (st .registers) (j .1) ∙ sym (burst-write-done columns st (a .address) bs (burst-write-refusal st (a .address) bs ∙ j .0))
 

@@ -11,7 +11,8 @@ use Rattle.calls.specs.Calls.{flip, flipIn, Got}
 use Rattle.calls.specs.Spans.{byBit}
 use Rattle.calls.proofs.SpanLaws.{bit-fits}
 use Rattle.memory.proofs.JudgeLaws.{judged-as}
-use Rattle.memory.proofs.CallLaws.{called-refused, called-done, flip-refusal, flip-part, judged-arguments}
+use Rattle.memory.proofs.CallLaws.{called-refused, called-done, flip-refusal, judged-arguments}
+use Rattle.machine.proofs.InTurnLaws.{single-parts}
 use borrow.Author.Needs.{needs}
 use Rattle.memory.proofs.in_place.flip_in_place.Statement.{statement}
 use Rattle.memory.proofs.in_place.flip_in_place.Tie as tie
@@ -43,7 +44,7 @@ returns-3 c =
     let st = state (recordOf (a .registers .now)) (a .cells .now) in
     let j = judged-as st (a .address) _ (c .before .before .before .before .before .before .before .before .before .judge-bit .result) _ (c .before .before .before .before .before .before .before .before .before .before .locate .ensures) (c .before .before .before .before .before .before .before .before .judge .ensures) (c .before .before .before .before .before .before .judged2 .given .1) (c .before .before .before .before .before .before .before .before .before .judge-bit .ensures) in
     let does = c .before .before .before .flip-cell .ensures columns in
-    simp (c .answer .ensures) (sym (called-done st (flip (a .address) (a .bit)) (flipIn (a .address) (a .bit)) (flip-part (a .address) (a .bit)) columns [] (flip-refusal st (a .address) (a .bit) ∙ rw (j .0, j .1)) _ _ _ _ _ (j .1) does (sym (ap (λ (g : Got × List ℕ). reported (g .0 .kind) (a .address) (st .registers)) does ∙ flip-keeps-registers columns (st .registers) (st .cells) (a .address) (a .bit) _))))
+    simp (c .answer .ensures) (sym (called-done st (flip (a .address) (a .bit)) (flipIn (a .address) (a .bit)) (single-parts (flipIn (a .address) (a .bit))) columns [] (flip-refusal st (a .address) (a .bit) ∙ rw (j .0, j .1)) _ _ _ _ _ (j .1) does (sym (ap (λ (g : Got × List ℕ). reported (g .0 .kind) (a .address) (st .registers)) does ∙ flip-keeps-registers columns (st .registers) (st .cells) (a .address) (a .bit) _))))
 
 pub flip-in-place-spec : {M : Type 1} → statement M
 flip-in-place-spec =

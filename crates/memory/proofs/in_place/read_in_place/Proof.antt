@@ -12,7 +12,8 @@ use Rattle.machine.specs.Calls.{onTarget}
 use Rattle.ecc.proofs.ColumnLaws.{own-columns}
 use Rattle.memory.proofs.JudgeLaws.{judged-as}
 use Rattle.memory.proofs.TargetLaws.{ones-taken}
-use Rattle.memory.proofs.CallLaws.{called-refused, called-done, read-refusal, read-part, judged-arguments}
+use Rattle.memory.proofs.CallLaws.{called-refused, called-done, read-refusal, judged-arguments}
+use Rattle.machine.proofs.InTurnLaws.{single-parts}
 use borrow.Author.Needs.{needs}
 use Rattle.memory.proofs.in_place.read_in_place.Statement.{statement}
 use Rattle.memory.proofs.in_place.read_in_place.Tie as tie
@@ -45,14 +46,14 @@ returns-2 c =
     let st = state (recordOf (a .registers .now)) (a .cells .now) in
     let j = judged-as st (a .address) _ (c .before .before .before .before .before .before .before .before .before .judge-count .result) _ (c .before .before .before .before .before .before .before .before .before .before .locate .ensures) (c .before .before .before .before .before .before .before .before .judge .ensures) (c .before .before .before .before .before .before .enum-told .given .1) (c .before .before .before .before .before .before .before .before .before .judge-count .ensures) in
     let fits = count-fits (a .address) (length (a .buffer .now)) (judged-arguments st (a .address) (byCount (a .address) (length (a .buffer .now))) (j .0)) in
-    simp (c .report .ensures .0) (sym (called-done st (read (a .address) (length (a .buffer .now))) (readIn (a .address) (length (a .buffer .now))) (read-part (a .address) (length (a .buffer .now))) columns (a .buffer .now) (read-refusal st (a .address) (length (a .buffer .now)) ∙ j .0) _ _ _ _ _ (j .1) (rw (c .before .before .before .before .copy-out .ensures ∙ ones-taken (length (a .buffer .now)) (omega (arith, fits)))) (c .report .ensures .1)))
+    simp (c .report .ensures .0) (sym (called-done st (read (a .address) (length (a .buffer .now))) (readIn (a .address) (length (a .buffer .now))) (single-parts (readIn (a .address) (length (a .buffer .now)))) columns (a .buffer .now) (read-refusal st (a .address) (length (a .buffer .now)) ∙ j .0) _ _ _ _ _ (j .1) (rw (c .before .before .before .before .copy-out .ensures ∙ ones-taken (length (a .buffer .now)) (omega (arith, fits)))) (c .report .ensures .1)))
 
 returns-3 : tie.Need-returns-3
 returns-3 c =
     let a = c .before .before .before .before .before .before .before .before .before .before .before .before .before .before .before .before .args in
     let st = state (recordOf (a .registers .now)) (a .cells .now) in
     let j = judged-as st (a .address) _ (c .before .before .before .before .before .before .before .before .before .before .before .judge-count .result) _ (c .before .before .before .before .before .before .before .before .before .before .before .before .locate .ensures) (c .before .before .before .before .before .before .before .before .before .before .judge .ensures) (c .before .before .before .before .before .before .before .before .judged2 .given .1) (c .before .before .before .before .before .before .before .before .before .before .before .judge-count .ensures) in
-    simp (c .report2 .ensures .0) (sym (called-done st (read (a .address) (length (a .buffer .now))) (readIn (a .address) (length (a .buffer .now))) (read-part (a .address) (length (a .buffer .now))) columns (a .buffer .now) (read-refusal st (a .address) (length (a .buffer .now)) ∙ j .0) _ _ _ _ _ (j .1) (rw own-columns at (c .before .before .before .before .read-cell .ensures)) (c .report2 .ensures .1)))
+    simp (c .report2 .ensures .0) (sym (called-done st (read (a .address) (length (a .buffer .now))) (readIn (a .address) (length (a .buffer .now))) (single-parts (readIn (a .address) (length (a .buffer .now)))) columns (a .buffer .now) (read-refusal st (a .address) (length (a .buffer .now)) ∙ j .0) _ _ _ _ _ (j .1) (rw own-columns at (c .before .before .before .before .read-cell .ensures)) (c .report2 .ensures .1)))
 
 pub read-in-place-spec : {M : Type 1} → statement M
 read-in-place-spec =

@@ -1,6 +1,4 @@
 use mathlib.Core.Path.{ap}
-use Prim.Native.Nat.{ℕ}
-use mathlib.Core.List.{List}
 use Rattle.registers.specs.Record.{recordOf}
 use borrow.Author.Needs.{needs}
 use Rattle.memory.proofs.in_place.report.Statement.{statement}
