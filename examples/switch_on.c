@@ -42,8 +42,11 @@ static int print_refusal(uint32_t result)
 static void print_answer(const char *call, uint32_t address, uint32_t result, const mpc106_answer *answer)
 {
     printf("%s %08x: ", call, address);
-    if (!print_refusal(result))
-        printf("%s\n", kind_name(answer->part[0]));
+    if (print_refusal(result))
+        return;
+    for (uint32_t i = 0; i < answer->count; i++)
+        printf("%s%s", i == 0 ? "" : ", ", kind_name(answer->part[i]));
+    printf("\n");
 }
 
 static void set_register(uint32_t offset, uint8_t value)
@@ -178,12 +181,26 @@ static void turn_bits_over(void)
     read_bytes(0x0000100a, 2);
 }
 
+/* Two bytes of each call lie in one doubleword and two in the next, so its answer has two parts. */
+static void run_into_the_next(void)
+{
+    static const uint8_t four[4] = {0xde, 0xad, 0xbe, 0xef};
+
+    write_bytes(0x00001006, four, sizeof four);
+    flip(0x00001008, 5);
+    read_bytes(0x00001006, 4);
+    read_bytes(0x004ffffe, 4);
+    show_register(MPC106_ERROR_DETECTION_1);
+    show_register(MPC106_ERROR_ADDRESS + 2);
+    set_register(MPC106_ERROR_DETECTION_1, 0x20); /* clears the bit, so that the next one is reported too */
+}
+
 static void leave_the_banks(void)
 {
     read_bytes(0x00500000, 2);
     show_register(MPC106_ERROR_DETECTION_1);
     show_register(MPC106_ERROR_ADDRESS + 2);
-    read_bytes(0x00001007, 2);
+    read_bytes(0xffffffff, 2);
     flip(0x00001008, 72);
 }
 
@@ -202,6 +219,7 @@ int main(void)
         return 1;
     map_both_ways();
     turn_bits_over();
+    run_into_the_next();
     leave_the_banks();
     go_out_of_range();
     free(memory.cells);

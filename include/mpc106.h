@@ -52,13 +52,13 @@
  *   B8       single-bit counter: each MPC106_CORRECTED raises it by one, stopping at 255
  *   B9       single-bit trigger
  *   C0       error enables 1: bit 5 lets C1 bit 5 be set, and bit 2 C1 bit 2; its other bits do nothing
- *   C1       error detection 1: bit 5, a read, write, scrub or beat of a burst found no bank; bit 2, B8 rose and was
+ *   C1       error detection 1: bit 5, a part of a read, write, scrub or burst found no bank; bit 2, B8 rose and was
  *            then equal to B9. Writing a 1 clears that bit
  *   C4       error enables 2: bit 3 lets C5 bit 3 be set; its other bits do nothing
  *   C5       error detection 2: bit 3, a doubleword was uncorrectable. Writing a 1 clears that bit
  *   C8..CB   error address, lowest byte first, read only: the address of the last call that set a bit of C1 or C5
  *            while all bits of both were zero, as the call was given it and not rounded down to its doubleword.
- *            Each beat of a burst counts as a call here, with the address of the beat
+ *            Each part of a split read or write and each beat of a burst counts as a call here, with its own address
  *   F0, F1   row codes, two bits for each bank: banks 0 to 3 from the low end of F0, 4 to 7 of F1. Codes
  *            0, 1, 2, 3 mean 9, 10, 11, 12 row bits
  *   F2       bit 3 switches memory on: write 8 for on, 0 for off, and no other value
@@ -76,8 +76,8 @@
 #include <stdint.h>
 
 /* The version of this interface: a program that compiles with one compiles with every later one of the same major version. */
-#define MPC106_VERSION_MAJOR 1
-#define MPC106_VERSION_MINOR 1
+#define MPC106_VERSION_MAJOR 2
+#define MPC106_VERSION_MINOR 0
 #define MPC106_VERSION_PATCH 0
 #define MPC106_VERSION (MPC106_VERSION_MAJOR * 10000 + MPC106_VERSION_MINOR * 100 + MPC106_VERSION_PATCH)
 
@@ -114,9 +114,9 @@ enum mpc106_refusal {
     MPC106_LOCKED_WHILE_ON = 4,         /* a write at 80 to A0, F0 or F1 while memory is on */
     MPC106_NOT_READY = 5,               /* memory is off, or the record would not be switched on */
     MPC106_COUNT_OUT_OF_RANGE = 6,      /* a count of 0 or above 8 */
-    MPC106_CROSSES_DOUBLEWORD = 7,      /* the access leaves its doubleword */
+    MPC106_PASSES_LAST_ADDRESS = 7,     /* address + count of a read or write is above 2^32 */
     MPC106_BIT_OUT_OF_RANGE = 8,        /* a flip of a bit above 71 */
-    MPC106_NOT_LENT = 9,                /* the cell, or one of a burst's, is not wholly within the lent cells */
+    MPC106_NOT_LENT = 9,                /* a cell that the call needs is not wholly within the lent cells */
     MPC106_FLIP_WITHOUT_BANK = 10,      /* a flip where no bank holds the address */
     MPC106_NO_BANK_ENABLED = 11,        /* switching on with no bank enabled */
     MPC106_START_ABOVE_END = 12,        /* with the bank: it starts above its end */
@@ -134,7 +134,7 @@ enum mpc106_kind {
     MPC106_CLEAN = 1,         /* nothing was wrong */
     MPC106_CORRECTED = 2,     /* one bit was wrong and was corrected */
     MPC106_UNCORRECTABLE = 3, /* more bits were wrong than can be corrected */
-    MPC106_STORED = 4,        /* a write of 8 bytes, or a beat of a burst write */
+    MPC106_STORED = 4,        /* a write of 8 bytes that fill one doubleword, or a beat of a burst write */
     MPC106_NO_BANK = 5        /* no enabled bank holds the address */
 };
 
@@ -154,8 +154,9 @@ typedef struct mpc106_memory {
 } mpc106_memory;
 
 /*
- * What an accepted read, write, scrub or burst gives: the number of its parts, 4 for a burst and at present 1 for any
- * other call, and the parts; unused ones are 0.
+ * What an accepted read, write, scrub or burst gives: the number of its parts, and the parts in the order in which
+ * they were performed; unused ones are 0. A burst has 4 parts, one for each beat; a read or write that runs into the
+ * next doubleword, a split, has 2, that of the lower address first; any other call has 1.
  */
 typedef struct mpc106_answer {
     uint32_t count;
@@ -222,7 +223,7 @@ static inline const char *mpc106_refusal_text(uint32_t result)
     case MPC106_LOCKED_WHILE_ON: return "the banks' registers can't be written while memory is on";
     case MPC106_NOT_READY: return "memory is off, or its banks would not be switched on";
     case MPC106_COUNT_OUT_OF_RANGE: return "the number of bytes is not 1 to 8";
-    case MPC106_CROSSES_DOUBLEWORD: return "the bytes don't lie in one doubleword";
+    case MPC106_PASSES_LAST_ADDRESS: return "the bytes run past the last address, FFFFFFFF";
     case MPC106_BIT_OUT_OF_RANGE: return "the bit is above 71";
     case MPC106_NOT_LENT: return "a cell that the call needs is not wholly within the lent cells";
     case MPC106_FLIP_WITHOUT_BANK: return "there is no bit to flip: no enabled bank holds the address";
@@ -320,10 +321,16 @@ static inline uint32_t mpc106_alike(const mpc106_record *first, const mpc106_rec
 }
 
 /*
- * Reads count bytes, 1 to 8, inside one doubleword, into buffer.
+ * Reads count bytes, 1 to 8, into buffer.
  * Gives MPC106_CLEAN or MPC106_CORRECTED with the right bytes in buffer, MPC106_UNCORRECTABLE with the bytes as
  * they are stored, or MPC106_NO_BANK with FF in every byte.
  * The error registers of the record (B8, C1, C5, C8 to CB) are brought up to date. Cells are never changed.
+ * If the bytes run into the next doubleword, that is if address % 8 + count is above 8, the read is a split. It has
+ * two parts: the bytes up to the end of the first doubleword, at address, and the rest, at the next doubleword. Each
+ * is what mpc106_read of its own bytes is, and gives a part of the answer; one that finds no bank sets its own bytes
+ * of buffer to FF, and no others. The second is performed even if the first is uncorrectable or finds no bank, and
+ * the two may lie in different banks. The error registers are left as two such calls leave them.
+ * If one of the two cells is not lent, the split is refused whole.
  * Refused: 5, 6, 7, 9.
  */
 static inline uint32_t mpc106_read(const mpc106_memory *memory, uint32_t address, uint8_t *buffer, size_t count,
@@ -334,12 +341,16 @@ static inline uint32_t mpc106_read(const mpc106_memory *memory, uint32_t address
 }
 
 /*
- * Writes count bytes, 1 to 8, inside one doubleword.
- * 8 bytes: gives MPC106_STORED; data and check byte are stored, whatever was there before.
+ * Writes count bytes, 1 to 8.
+ * 8 bytes in one doubleword: gives MPC106_STORED; data and check byte are stored, whatever was there before.
  * Fewer: the doubleword is corrected, the bytes are merged into it, and it is stored; gives MPC106_CLEAN or
  * MPC106_CORRECTED. If it cannot be corrected, gives MPC106_UNCORRECTABLE, and cells are left as they were.
  * No bank: gives MPC106_NO_BANK, and cells are left as they were.
  * The error registers of the record are brought up to date.
+ * If the bytes run into the next doubleword, the write is a split, with the two parts of mpc106_read. Each is what
+ * mpc106_write of its own bytes is. It has fewer than 8, so a split never gives MPC106_STORED, even if count is 8. The
+ * second is performed even if the first stores nothing. The error registers are left as two such calls leave them.
+ * If one of the two cells is not lent, the split is refused whole.
  * Refused: 5, 6, 7, 9.
  */
 static inline uint32_t mpc106_write(const mpc106_memory *memory, uint32_t address, const uint8_t *bytes, size_t count,

@@ -1,9 +1,12 @@
-//! Writes the tables of `limit.c` and compiles it with gcc.
+//! Writes the tables of the C files and compiles them with gcc.
 use std::env;
 use std::fmt::{Display, Write};
 use std::fs;
 use std::path::{Path, PathBuf};
 use std::process::Command;
+
+const SOURCES: [&str; 2] = ["limit.c", "bursts.c"];
+const HEADERS: [&str; 4] = ["locate.h", "cell.h", "calls.h", "splits.h"];
 
 /// The columns of data bits 0 to 63, then of the check bits.
 fn columns() -> Vec<u8> {
@@ -34,6 +37,14 @@ fn check(columns: &[u8]) -> Vec<u8> {
         ones.fold(0, |check, bit| check ^ columns[8 * place + bit])
     };
     (0..8 * 256).map(|i| of_byte(i / 256, i % 256)).collect()
+}
+
+/// SPLIT_CHECK: the same for a byte of two doublewords one behind the other, `i / 256` being its place in both; the check byte of the second is in
+/// the high byte.
+fn split_check(check: &[u8]) -> Vec<u16> {
+    let first = check.iter().map(|&byte| u16::from(byte));
+    let second = check.iter().map(|&byte| u16::from(byte) << 8);
+    first.chain(second).collect()
 }
 
 /// KIND and FIX, by syndrome: clean, corrected or uncorrectable (1, 2, 3), and the data bit to be corrected, as a mask for the doubleword
@@ -88,7 +99,9 @@ fn tables() -> String {
     let columns = columns();
     let (kind, fix) = syndromes(&columns);
     let mut text = String::new();
-    array(&mut text, "uint8_t", "CHECK", &check(&columns));
+    let check = check(&columns);
+    array(&mut text, "uint8_t", "CHECK", &check);
+    array(&mut text, "uint16_t", "SPLIT_CHECK", &split_check(&check));
     array(&mut text, "uint8_t", "KIND", &kind);
     array(&mut text, "uint64_t", "FIX", &fix);
     array(&mut text, "uint16_t", "OFF", &off());
@@ -102,24 +115,33 @@ fn run(command: &mut Command) {
     assert!(status.success(), "{command:?} failed");
 }
 
-fn main() {
-    let out = PathBuf::from(env::var_os("OUT_DIR").expect("cargo sets it"));
-    let source = Path::new(env!("CARGO_MANIFEST_DIR")).join("limit.c");
-    println!("cargo:rerun-if-changed={}", source.display());
-    println!("cargo:rerun-if-changed=build.rs");
-    fs::write(out.join("tables.h"), tables()).expect("the tables are written");
-    let (object, library) = (out.join("limit.o"), out.join("liblimit.a"));
+/// The object file of a C source.
+fn compile(folder: &Path, out: &Path, source: &str) -> PathBuf {
+    let object = out.join(source).with_extension("o");
     let flags = [
         "-std=c11", "-O3", "-Wall", "-Wextra", "-Werror", "-fPIC", "-c",
     ];
     run(Command::new("gcc")
         .args(flags)
         .arg("-I")
-        .arg(&out)
-        .arg(&source)
+        .arg(out)
+        .arg(folder.join(source))
         .arg("-o")
         .arg(&object));
-    run(Command::new("ar").arg("crs").arg(&library).arg(&object));
+    object
+}
+
+fn main() {
+    let out = PathBuf::from(env::var_os("OUT_DIR").expect("cargo sets it"));
+    let folder = Path::new(env!("CARGO_MANIFEST_DIR"));
+    for file in SOURCES.iter().chain(&HEADERS) {
+        println!("cargo:rerun-if-changed={}", folder.join(file).display());
+    }
+    println!("cargo:rerun-if-changed=build.rs");
+    fs::write(out.join("tables.h"), tables()).expect("the tables are written");
+    let objects = SOURCES.map(|source| compile(folder, &out, source));
+    let library = out.join("liblimit.a");
+    run(Command::new("ar").arg("crs").arg(&library).args(objects));
     println!("cargo:rustc-link-search=native={}", out.display());
     println!("cargo:rustc-link-lib=static=limit");
 }

@@ -1,5 +1,5 @@
 //! The rows of bursts, and of the four single calls that go to the same doublewords in the same order.
-use crate::rows::{used, Sides};
+use crate::machine::{used, Sides};
 use crate::table::{over, Row, Table};
 use model::memory;
 use mpc106::{ffi, LINE_BYTES};

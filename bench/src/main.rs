@@ -9,6 +9,9 @@
 //! caches. These doublewords hold random bytes; in rows of corrected reads each has one bit inverted, and in rows of uncorrectable reads two.
 //! Error reporting is enabled. After a row, record, buffer, answer and those cells must be equal on all sides.
 //!
+//! A split starts inside one of these doublewords, at any place but its first byte, and goes on in the next. In the row with a corrected part, every
+//! second doubleword has one bit inverted. Two tables have the time of a split divided by that of a call that does the same to one cell, on each side.
+//!
 //! A burst starts at one of these doublewords and goes on within its line. In the row with a corrected beat, one doubleword of each line has one
 //! bit inverted. The rows of four single calls go to the doublewords of the same bursts in the same order, and their time is that of all four;
 //! the last two tables of calls have the time of a burst divided by it, on each side.
@@ -17,6 +20,7 @@
 //! `rust/src/ffi.rs` and of `bench/limit`, and the model's are in another crate.
 mod bursts;
 mod lines;
+mod machine;
 mod other;
 mod rows;
 mod setups;
@@ -34,8 +38,8 @@ fn main() {
         other::run(&mut table);
     }
     table.print();
-    for (burst, single_calls) in rows::REPLACED {
-        table.print_ratios(burst, single_calls);
+    for (row, other) in rows::RATIOS {
+        table.print_ratios(row, other);
     }
     lines::print();
 }

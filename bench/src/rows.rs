@@ -1,41 +1,22 @@
 //! The rows of memory calls and of the map, for each set-up.
 use crate::bursts;
+use crate::machine::{is_same, machine, touched, used, Flips, Sides, DOUBLEWORDS};
 use crate::setups::{self, Setup};
 use crate::table::{over, Row, Table};
 use model::gen::Rng;
-use model::{memory, Record};
-use mpc106::{ffi, CELL_BYTES, LINE_BYTES};
-use std::hint::black_box;
-use std::ops::Range;
+use model::memory;
+use mpc106::ffi;
 
-/// The number of calls in a turn, and of doublewords that they touch.
+/// The number of calls in a turn.
 pub const CALLS: usize = 2048;
-const DOUBLEWORDS: u32 = 1024;
-
-/// What was done to each doubleword before a row.
-#[derive(Clone, Copy)]
-enum Flips {
-    None,
-    One,
-    Two,
-    /// One, in one of the four doublewords of each line.
-    OneInLine,
-}
-
-/// What one side works on. The numbers are an answer, or a place.
-#[derive(Clone)]
-pub struct Machine {
-    pub record: Record,
-    pub cells: Vec<u8>,
-    pub buffer: [u8; LINE_BYTES],
-    pub numbers: [u32; 5],
-}
 
 /// What a row calls, on each side.
 #[derive(Clone, Copy)]
 enum Call {
     Read(usize),
     Write(usize),
+    SplitRead,
+    SplitWrite,
     Scrub,
     Flip,
     Map,
@@ -45,21 +26,37 @@ enum Call {
     FourWrites,
 }
 
+const READ: &str = "read of 8";
+const SHORT_WRITE: &str = "write of 1";
+const SPLIT_READ: &str = "split read of 8";
+const SPLIT_WRITE: &str = "split write of 8";
 const BURST_READ: &str = "burst read";
 const BURST_WRITE: &str = "burst write";
 const FOUR_READS: &str = "four reads of 8";
 const FOUR_WRITES: &str = "four writes of 8";
 
-/// Each burst and the single calls that it replaces.
-pub const REPLACED: [(&str, &str); 2] = [(BURST_READ, FOUR_READS), (BURST_WRITE, FOUR_WRITES)];
+/// Each split beside a call of one part that does the same to its cell, and each burst beside the single calls that it replaces.
+pub const RATIOS: [(&str, &str); 4] = [
+    (SPLIT_READ, READ),
+    (SPLIT_WRITE, SHORT_WRITE),
+    (BURST_READ, FOUR_READS),
+    (BURST_WRITE, FOUR_WRITES),
+];
 
-const ROWS: [(&str, Call, Flips); 14] = [
-    ("read of 8", Call::Read(8), Flips::None),
+const ROWS: [(&str, Call, Flips); 17] = [
+    (READ, Call::Read(8), Flips::None),
     ("read of 1", Call::Read(1), Flips::None),
     ("read of 8, corrected", Call::Read(8), Flips::One),
     ("read of 8, uncorrectable", Call::Read(8), Flips::Two),
     ("write of 8", Call::Write(8), Flips::None),
-    ("write of 1", Call::Write(1), Flips::None),
+    (SHORT_WRITE, Call::Write(1), Flips::None),
+    (SPLIT_READ, Call::SplitRead, Flips::None),
+    (
+        "split read of 8, one part corrected",
+        Call::SplitRead,
+        Flips::OneOfTwo,
+    ),
+    (SPLIT_WRITE, Call::SplitWrite, Flips::None),
     ("scrub", Call::Scrub, Flips::None),
     ("flip", Call::Flip, Flips::None),
     ("map", Call::Map, Flips::None),
@@ -94,6 +91,8 @@ fn row(table: &mut Table, setup: &Setup, name: &'static str, call: Call, flips: 
     match call {
         Call::Read(n) => read_row(table, row, sides, n),
         Call::Write(n) => write_row(table, row, sides, n),
+        Call::SplitRead => read_row(table, row, sides, 8),
+        Call::SplitWrite => write_row(table, row, sides, 8),
         Call::Scrub => scrub_row(table, row, sides),
         Call::Flip => flip_row(table, row, sides),
         Call::Map => map_row(table, row, sides),
@@ -115,71 +114,21 @@ fn row(table: &mut Table, setup: &Setup, name: &'static str, call: Call, flips: 
     );
 }
 
-/// Answers and places are compared only if both sides write them down.
-fn is_same(a: &Machine, b: &Machine, cells: &Range<usize>) -> bool {
-    a.record == b.record
-        && a.buffer == b.buffer
-        && a.cells[cells.clone()] == b.cells[cells.clone()]
-        && (b.numbers == [0; 5] || a.numbers == b.numbers)
-}
-
-/// The bytes of the cells of the doublewords that the calls touch; these cells are next to each other.
-fn touched(setup: &Setup) -> Range<usize> {
-    let place = model::map::map(&setup.record, setup.address);
-    let first = place.expect("memory is on").expect("a bank").cell as usize;
-    first * CELL_BYTES..(first + DOUBLEWORDS as usize) * CELL_BYTES
-}
-
+/// A split starts inside a doubleword, and not in the last one, since it goes on in the next.
 fn addresses(setup: &Setup, call: Call) -> Vec<u32> {
     let mut rng = Rng::new(106);
     let mut address = || {
-        let inside = match call {
-            Call::Read(8) | Call::Write(8) => 0,
-            Call::BurstRead | Call::BurstWrite | Call::FourReads | Call::FourWrites => 0,
-            _ => rng.below(8),
+        let (inside, doublewords) = match call {
+            Call::Read(8) | Call::Write(8) => (0, DOUBLEWORDS),
+            Call::BurstRead | Call::BurstWrite | Call::FourReads | Call::FourWrites => {
+                (0, DOUBLEWORDS)
+            }
+            Call::SplitRead | Call::SplitWrite => (1 + rng.below(7), DOUBLEWORDS - 1),
+            _ => (rng.below(8), DOUBLEWORDS),
         };
-        setup.address + 8 * rng.below(DOUBLEWORDS) + inside
+        setup.address + 8 * rng.below(doublewords) + inside
     };
     (0..CALLS).map(|_| address()).collect()
-}
-
-/// Random bytes in each of the doublewords, with some bits inverted.
-fn machine(setup: &Setup, flips: Flips) -> Machine {
-    let mut rng = Rng::new(7);
-    let mut record = setup.record;
-    let layout = model::map::judge(&record).expect("memory is on");
-    let mut cells = vec![0; layout.cells() as usize * CELL_BYTES];
-    for k in 0..DOUBLEWORDS {
-        let address = setup.address + 8 * k;
-        let bytes = rng.next_u64().to_le_bytes();
-        memory::write(&mut record, &mut cells, address, &bytes).expect("a write");
-        let first = rng.below(72);
-        let second = (first + 1 + rng.below(71)) % 72;
-        let bits: &[u32] = match flips {
-            Flips::One => &[first],
-            Flips::Two => &[first, second],
-            Flips::OneInLine if k % 4 == k / 4 % 4 => &[first],
-            Flips::None | Flips::OneInLine => &[],
-        };
-        for &bit in bits {
-            memory::flip(&record, &mut cells, address, bit as u8).expect("a flip");
-        }
-    }
-    // All different, so that a burst whose beats are in another order leaves other cells.
-    let buffer = std::array::from_fn(|i| i as u8);
-    Machine {
-        record,
-        cells,
-        buffer,
-        numbers: [0; 5],
-    }
-}
-
-pub type Sides<'a> = (&'a mut Machine, &'a mut Machine, &'a mut Machine);
-
-/// Keeps the compiler from leaving out a call whose answer nobody reads.
-pub fn used<T>(answer: T) {
-    black_box(answer);
 }
 
 fn read_row(table: &mut Table, row: Row, (a, b, c): Sides, n: usize) {

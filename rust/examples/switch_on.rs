@@ -20,7 +20,10 @@ fn text<T>(given: Result<T, Refusal>, words: impl Fn(T) -> String) -> String {
 }
 
 fn answer_text(given: Result<Answer, Refusal>) -> String {
-    text(given, |answer| kind_name(answer.kind()).to_string())
+    text(given, |answer| {
+        let kinds: Vec<&str> = answer.kinds().map(kind_name).collect();
+        kinds.join(", ")
+    })
 }
 
 fn set_register(record: &mut Record, offset: u32, value: u8) {
@@ -123,11 +126,23 @@ fn turn_bits_over(memory: &mut Memory) {
     read::<2>(memory, 0x0000_100a);
 }
 
+/// Two bytes of each call lie in one doubleword and two in the next, so its answer has two parts.
+fn run_into_the_next(memory: &mut Memory) {
+    write(memory, 0x0000_1006, &[0xde, 0xad, 0xbe, 0xef]);
+    flip(memory, 0x0000_1008, 5);
+    read::<4>(memory, 0x0000_1006);
+    read::<4>(memory, 0x004f_fffe);
+    show_register(&memory.record, offset::ERROR_DETECTION_1);
+    show_register(&memory.record, offset::ERROR_ADDRESS + 2);
+    // clears the bit, so that the next one is reported too
+    set_register(&mut memory.record, offset::ERROR_DETECTION_1, 0x20);
+}
+
 fn leave_the_banks(memory: &mut Memory) {
     read::<2>(memory, 0x0050_0000);
     show_register(&memory.record, offset::ERROR_DETECTION_1);
     show_register(&memory.record, offset::ERROR_ADDRESS + 2);
-    read::<2>(memory, 0x0000_1007);
+    read::<2>(memory, 0xffff_ffff);
     flip(memory, 0x0000_1008, 72);
 }
 
@@ -144,6 +159,7 @@ fn main() -> Result<(), Refusal> {
     let mut memory = Memory::new(record)?;
     map_both_ways(&memory.record);
     turn_bits_over(&mut memory);
+    run_into_the_next(&mut memory);
     leave_the_banks(&mut memory);
     go_out_of_range(&mut memory);
     Ok(())

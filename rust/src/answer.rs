@@ -13,7 +13,7 @@ pub enum Kind {
     Corrected,
     /// More bits were wrong than can be corrected.
     Uncorrectable,
-    /// A write of 8 bytes or a beat of a burst write, which does not look at the old cell.
+    /// A write of 8 bytes that fill one doubleword, or a beat of a burst write; neither looks at the old cell.
     Stored,
     /// No enabled bank holds the address.
     NoBank,
@@ -27,8 +27,8 @@ pub struct Part {
     pub kind: Kind,
 }
 
-/// What an accepted read, write, scrub or burst gives. A burst has four parts, one for each beat; at present any other
-/// answer has one.
+/// What an accepted read, write, scrub or burst gives. A burst has four parts, one for each beat; a read or write that
+/// runs into the next doubleword, a split, has two, that of the lower address first; any other answer has one.
 #[derive(Clone, Copy, Debug, PartialEq, Eq, Hash)]
 pub struct Answer {
     count: usize,
@@ -41,12 +41,12 @@ impl Answer {
         &self.parts[..self.count]
     }
 
-    /// The kind of the first part: of a burst, that of its first beat alone; see [`kinds`](Answer::kinds).
+    /// The kind of the first part: of a split or a burst, that of its first access alone; see [`kinds`](Answer::kinds).
     pub fn kind(&self) -> Kind {
         self.parts[0].kind
     }
 
-    /// The kind of each part: for a burst four, in the order of its beats.
+    /// The kind of each part, in the order in which they were performed: four for a burst, two for a split.
     pub fn kinds(&self) -> impl Iterator<Item = Kind> + '_ {
         self.parts().iter().map(|part| part.kind)
     }
@@ -94,6 +94,9 @@ mod tests {
         ];
         assert!(given.kinds().eq(kinds));
         assert_eq!(given.parts().len(), 4);
+        let split = answer([2, 3, 1, 0, 0]).expect("an answer");
+        assert!(split.kinds().eq([Kind::Uncorrectable, Kind::Clean]));
+        assert_eq!(split.parts().len(), 2);
         assert_eq!(answer([1, 5, 0, 0, 0]).map(|x| x.kind()), Ok(Kind::NoBank));
         assert_eq!(answer([1, 5, 0, 0, 0]).map(|x| x.parts().len()), Ok(1));
     }

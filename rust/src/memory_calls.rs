@@ -5,9 +5,36 @@ use crate::record::Record;
 use crate::refusal::{accepted, Refusal};
 
 impl Record {
-    /// Reads as many bytes as the buffer has, 1 to 8 inside one doubleword: refusals 5, 6, 7, 9.
+    /// Reads as many bytes as the buffer has, 1 to 8: refusals 5, 6, 7, 9.
     /// With [`Kind::Uncorrectable`](crate::Kind::Uncorrectable) the buffer gets the bytes as stored, and with
     /// [`Kind::NoBank`](crate::Kind::NoBank) each of its bytes becomes FF.
+    ///
+    /// If the bytes run into the next doubleword, the read is a split. It has two parts: the bytes up to the end of the
+    /// first doubleword, at the address, and the rest, at the next doubleword. Each is a read of its own bytes: it gives
+    /// a part of the answer, fills its own bytes of the buffer and is reported with its own address, and the second is
+    /// performed whatever the first gives. If one of the two cells is not lent, the split is refused whole.
+    ///
+    /// ```
+    /// use mpc106::{offset, Kind, Memory, Record};
+    ///
+    /// let mut record = Record::fresh();
+    /// record.write_register(offset::END, 1)?; // bank 0 ends at megabyte 1
+    /// record.write_register(offset::BANK_ENABLE, 1)?;
+    /// record.write_register(offset::MEMORY, 8)?;
+    ///
+    /// let mut memory = Memory::new(record)?;
+    /// memory.write(0x16, &[1, 2, 3, 4])?; // two bytes at 0x16, two at 0x18
+    /// memory.flip(0x18, 5)?;
+    /// let mut buffer = [0; 4];
+    /// let answer = memory.read(0x16, &mut buffer)?;
+    /// assert!(answer.kinds().eq([Kind::Clean, Kind::Corrected]));
+    /// assert_eq!(buffer, [1, 2, 3, 4]);
+    ///
+    /// let answer = memory.read(0x1f_fffd, &mut buffer)?; // the last byte is behind the bank
+    /// assert!(answer.kinds().eq([Kind::Clean, Kind::NoBank]));
+    /// assert_eq!(buffer, [0, 0, 0, 0xff]);
+    /// # Ok::<(), mpc106::Refusal>(())
+    /// ```
     pub fn read(
         &mut self,
         cells: &[u8],
@@ -30,9 +57,12 @@ impl Record {
         answer(numbers)
     }
 
-    /// Writes 1 to 8 bytes inside one doubleword: refusals 5, 6, 7, 9. Eight give
+    /// Writes 1 to 8 bytes: refusals 5, 6, 7, 9. Eight in one doubleword give
     /// [`Kind::Stored`](crate::Kind::Stored); fewer are merged into the corrected doubleword, which stays as it
     /// was if it is uncorrectable.
+    ///
+    /// If the bytes run into the next doubleword, the write is a split, with the two parts of [`read`](Record::read).
+    /// Each is a write of its own bytes, fewer than eight, so a split never gives [`Kind::Stored`](crate::Kind::Stored).
     pub fn write(
         &mut self,
         cells: &mut [u8],

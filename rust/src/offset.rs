@@ -26,7 +26,7 @@ pub const SINGLE_BIT_TRIGGER: u32 = 0xb9;
 /// Bits 5 and 2 let the same bits of [`ERROR_DETECTION_1`] be set; its other bits do nothing.
 pub const ERROR_ENABLE_1: u32 = 0xc0;
 
-/// Bit 5: a read, write, scrub or beat of a burst found no bank. Bit 2: the counter rose and was then equal to the
+/// Bit 5: a part of a read, write, scrub or burst found no bank. Bit 2: the counter rose and was then equal to the
 /// trigger. Writing a 1 clears that bit.
 pub const ERROR_DETECTION_1: u32 = 0xc1;
 
@@ -37,8 +37,8 @@ pub const ERROR_ENABLE_2: u32 = 0xc4;
 pub const ERROR_DETECTION_2: u32 = 0xc5;
 
 /// The lowest of four bytes, read only: the address, as it was given, of the last call that set a bit of
-/// [`ERROR_DETECTION_1`] or [`ERROR_DETECTION_2`] while all bits of both were zero. Each beat of a burst counts as a
-/// call here, with the address of the beat.
+/// [`ERROR_DETECTION_1`] or [`ERROR_DETECTION_2`] while all bits of both were zero. Each part of a split read or write
+/// and each beat of a burst counts as a call here, with its own address.
 pub const ERROR_ADDRESS: u32 = 0xc8;
 
 /// Two bits for each bank, banks 0 to 3 from the low end; those of banks 4 to 7 are at the next offset. Codes 0,

@@ -19,11 +19,11 @@ pub enum Refusal {
     NotReady,
     /// 6: a count of 0 or above 8.
     CountOutOfRange,
-    /// 7: the access leaves its doubleword.
-    CrossesDoubleword,
+    /// 7: the bytes of a read or write run past the last address, FFFFFFFF.
+    PassesLastAddress,
     /// 8: a flip of a bit above 71.
     BitOutOfRange,
-    /// 9: the cell, or one of a burst's, is not wholly within the lent cells.
+    /// 9: a cell that the call needs is not wholly within the lent cells.
     NotLent,
     /// 10: a flip where no bank holds the address.
     FlipWithoutBank,
@@ -59,7 +59,7 @@ impl Refusal {
             Refusal::LockedWhileOn => 4,
             Refusal::NotReady => 5,
             Refusal::CountOutOfRange => 6,
-            Refusal::CrossesDoubleword => 7,
+            Refusal::PassesLastAddress => 7,
             Refusal::BitOutOfRange => 8,
             Refusal::NotLent => 9,
             Refusal::FlipWithoutBank => 10,
@@ -95,7 +95,7 @@ impl Refusal {
             Refusal::LockedWhileOn => "the banks' registers can't be written while memory is on",
             Refusal::NotReady => "memory is off, or its banks would not be switched on",
             Refusal::CountOutOfRange => "the number of bytes is not 1 to 8",
-            Refusal::CrossesDoubleword => "the bytes don't lie in one doubleword",
+            Refusal::PassesLastAddress => "the bytes run past the last address, FFFFFFFF",
             Refusal::BitOutOfRange => "the bit is above 71",
             Refusal::NotLent => "a cell that the call needs is not wholly within the lent cells",
             Refusal::FlipWithoutBank => {
@@ -140,7 +140,7 @@ pub(crate) fn accepted(result: u32) -> Result<(), Refusal> {
         (4, 0) => Refusal::LockedWhileOn,
         (5, 0) => Refusal::NotReady,
         (6, 0) => Refusal::CountOutOfRange,
-        (7, 0) => Refusal::CrossesDoubleword,
+        (7, 0) => Refusal::PassesLastAddress,
         (8, 0) => Refusal::BitOutOfRange,
         (9, 0) => Refusal::NotLent,
         (10, 0) => Refusal::FlipWithoutBank,

@@ -11,7 +11,7 @@ const REFUSALS: [(Refusal, &str); 19] = [
     (Refusal::LockedWhileOn, "LOCKED_WHILE_ON"),
     (Refusal::NotReady, "NOT_READY"),
     (Refusal::CountOutOfRange, "COUNT_OUT_OF_RANGE"),
-    (Refusal::CrossesDoubleword, "CROSSES_DOUBLEWORD"),
+    (Refusal::PassesLastAddress, "PASSES_LAST_ADDRESS"),
     (Refusal::BitOutOfRange, "BIT_OUT_OF_RANGE"),
     (Refusal::NotLent, "NOT_LENT"),
     (Refusal::FlipWithoutBank, "FLIP_WITHOUT_BANK"),

@@ -211,7 +211,8 @@ fn a_refused_read_leaves_everything() {
     let mut refused = |address, count| record.read(&lent, address, &mut buffer[..count]);
     assert_eq!(refused(0, 0), Err(Refusal::CountOutOfRange));
     assert_eq!(refused(0, 9), Err(Refusal::CountOutOfRange));
-    assert_eq!(refused(7, 2), Err(Refusal::CrossesDoubleword));
+    assert_eq!(refused(0xffff_ffff, 2), Err(Refusal::PassesLastAddress));
+    assert_eq!(refused(7, 2), Err(Refusal::NotLent));
     assert_eq!(refused(8, 2), Err(Refusal::NotLent));
     assert_eq!(record, before);
     assert_eq!(buffer, [0xee; 9]);
@@ -224,11 +225,11 @@ fn a_refused_write_leaves_everything() {
     let mut refused = |address, bytes: &[u8]| record.write(&mut lent, address, bytes);
     assert_eq!(refused(0, &[]), Err(Refusal::CountOutOfRange));
     assert_eq!(refused(0, &[0; 9]), Err(Refusal::CountOutOfRange));
-    assert_eq!(refused(1, &[0; 8]), Err(Refusal::CrossesDoubleword));
     assert_eq!(
         refused(0xffff_ffff, &[0; 2]),
-        Err(Refusal::CrossesDoubleword)
+        Err(Refusal::PassesLastAddress)
     );
+    assert_eq!(refused(1, &[1; 8]), Err(Refusal::NotLent));
     assert_eq!(refused(8, &[1]), Err(Refusal::NotLent));
     assert_eq!((record, lent), before);
 }
@@ -377,8 +378,8 @@ fn the_list_of_the_line_program() {
         Ok(Kind::NoBank)
     );
     assert_eq!(one, [0xff]);
-    assert_eq!(
-        record.read(&lent, 7, &mut [0; 2]),
-        Err(Refusal::CrossesDoubleword)
-    );
+    let mut two = [0xee; 2];
+    let split = record.read(&lent, 7, &mut two).expect("accepted");
+    assert!(split.kinds().eq([Kind::Clean, Kind::Clean]));
+    assert_eq!(two, [0; 2]);
 }

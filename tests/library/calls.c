@@ -3,53 +3,7 @@
  * with memory off. The structs that are passed as numbers have no gaps. Each refusal has a text of its own. Bursts give what was worked out by
  * hand: the order of their beats, their reports, and their refusals.
  */
-#include <stdio.h>
-#include <stdlib.h>
-#include <string.h>
-
-#include <mpc106.h>
-
-#define LENT 100
-
-/* What is lent to one side. */
-typedef struct {
-    mpc106_record record;
-    uint8_t cells[9 * LENT];
-    uint8_t buffer[MPC106_LINE_BYTES + 256];
-    mpc106_answer answer;
-    mpc106_place place;
-    uint32_t number;
-    uint8_t value;
-} side;
-
-static side a, b;
-
-#define CHECK(condition)                                                                                               \
-    do {                                                                                                               \
-        if (!(condition)) {                                                                                            \
-            printf("line %d: %s\n", __LINE__, #condition);                                                             \
-            exit(1);                                                                                                   \
-        }                                                                                                              \
-    } while (0)
-
-/* Two results are the same, and so is all that was lent. */
-#define SAME(first, second) CHECK((first) == (second) && memcmp(&a, &b, sizeof a) == 0)
-
-static void both_start(int on)
-{
-    memset(&a, 0xa6, sizeof a);
-    memset(a.cells, 0, sizeof a.cells);
-    mpc106_fresh(&a.record);
-    CHECK(mpc106_register_write(&a.record, MPC106_END, 1) == 0);
-    CHECK(mpc106_register_write(&a.record, MPC106_START + 3, 2) == 0);
-    CHECK(mpc106_register_write(&a.record, MPC106_END + 3, 4) == 0);
-    CHECK(mpc106_register_write(&a.record, MPC106_ROW_CODES, 0x40) == 0);
-    CHECK(mpc106_register_write(&a.record, MPC106_BANK_ENABLE, 9) == 0);
-    CHECK(mpc106_register_write(&a.record, MPC106_ERROR_ENABLE_1, 0x24) == 0);
-    if (on)
-        CHECK(mpc106_register_write(&a.record, MPC106_MEMORY, 8) == 0);
-    memcpy(&b, &a, sizeof b);
-}
+#include "sides.h"
 
 static void record_calls(void)
 {
@@ -138,12 +92,6 @@ static void bursts_wrap(void)
     }
 }
 
-static uint32_t error_address(const mpc106_record *record)
-{
-    const uint8_t *bytes = record->registers + MPC106_ERROR_ADDRESS;
-    return bytes[0] | (uint32_t)bytes[1] << 8 | (uint32_t)bytes[2] << 16 | (uint32_t)bytes[3] << 24;
-}
-
 /* A burst at 28 finds one bit inverted in its second beat, two in its third and one in its fourth. The second correction reaches the trigger. */
 static void bursts_report(void)
 {
@@ -215,7 +163,7 @@ static void structs_have_no_gaps(void)
     CHECK(sizeof(mpc106_answer) == 20 && offsetof(mpc106_answer, part) == 4);
     CHECK(sizeof(mpc106_place) == 20 && offsetof(mpc106_place, bank) == 4 && offsetof(mpc106_place, row) == 8);
     CHECK(offsetof(mpc106_place, column) == 12 && offsetof(mpc106_place, cell) == 16);
-    CHECK(MPC106_VERSION >= 10100);
+    CHECK(MPC106_VERSION >= 20000);
 }
 
 static void refusals_have_sentences(void)

@@ -1,4 +1,4 @@
-//! The functions of `limit.c`. Each has the contract of the function of the proved library whose name ends in the same way.
+//! The functions of `limit.c` and `bursts.c`. Each has the contract of the function of the proved library whose name ends in the same way.
 #![no_std]
 
 extern "C" {

@@ -1,14 +1,14 @@
 -- When two set-ups are alike: every 32-bit address has the same bank, row and column in both, or no bank in both; and one test for each of
 -- 1,024 megabytes decides it.
-use mathlib.Core.Path.{_≡_, refl, sym, ap, _∙_}
+use mathlib.Core.Path.{_≡_, refl, sym, ap}
 use mathlib.Core.Bool.{Bool, true, false, not, _&&_, _||_}
 use Prim.Native.Nat.{ℕ, _+_, _*_, _/_, _^_, _≤_, _<_}
 use native.Mathlib.Omega.{arith}
-use lib.Dec.{ltb, leb, eqb}
-use borrow.Author.Tests.{ltb-true, ltb-false, leb-true, le-leb, eqb-true, eq-eqb, not-true}
-use Rattle.basics.specs.Range.{first, every}
-use Rattle.basics.proofs.Bools.{and-left, not-of}
-use Rattle.basics.proofs.RangeLaws.{byCases, contra, first-passes, first-before, every-at, every-all}
+use lib.Dec.{ltb, eqb}
+use borrow.Author.Tests.{ltb-true, ltb-false, eqb-true, eq-eqb}
+use Rattle.basics.specs.Range.{every}
+use Rattle.basics.proofs.Bools.{and-left}
+use Rattle.basics.proofs.RangeLaws.{byCases, contra, every-at, every-all}
 use Rattle.banks.specs.declared.Row.{Row}
 use Rattle.banks.specs.declared.Column.{Column}
 use Rattle.banks.specs.Setup.{Setup, bank, Bounded}

@@ -6,10 +6,10 @@ use Prim.Native.Nat.{ℕ, _+_, _-_, _*_, _/_, _%_, _^_, _≤_, _<_}
 use native.Mathlib.Nat.{div-add-mod', mul-le-mul-right, add-mul, one-mul, mod-lt, mod-eq-of-lt}
 use native.Mathlib.Numerals.{add-one}
 use native.Mathlib.Omega.{arith}
-use lib.Dec.{ltb, leb, eqb}
+use lib.Dec.{ltb, eqb}
 use lib.Pow.{pow-add, pow-pos, pow-mono, shr-mono, mod-mod-pow}
 use borrow.Author.Tests.{ltb-true, ltb-false, lt-ltb, eqb-true, eq-eqb}
-use Rattle.basics.specs.Range.{first, every}
+use Rattle.basics.specs.Range.{every}
 use Rattle.basics.proofs.Bools.{and-left, and-right}
 use Rattle.basics.proofs.RangeLaws.{byCases, contra, first-ext, every-at, every-all}
 use Rattle.refusals.specs.Paper.{given}
@@ -18,14 +18,15 @@ use Rattle.registers.specs.declared.Registers.{Registers}
 use Rattle.banks.specs.declared.Bank.{Bank}
 use Rattle.banks.specs.Setup.{Setup, setupOf, bank, Bounded}
 use Rattle.banks.specs.Judge.{lowest, ready, notReady}
-use Rattle.banks.specs.Map.{holds, bankAt, cells}
+use Rattle.banks.specs.Map.{holds, bankAt}
 use Rattle.banks.proofs.FieldLaws.{Decoded, decoded, bounded}
-use Rattle.banks.proofs.SpanLaws.{Held, held, held-holds, bank-held}
+use Rattle.banks.proofs.SpanLaws.{Held, held-holds, bank-held}
 use Rattle.banks.proofs.AcceptedLaws.{Fitting, fitting}
 use Rattle.banks.proofs.CellLaws.{bank-selected}
 use Rattle.alike.specs.Alike.{alike, compared}
 use Rattle.alike.specs.CodeMegabyte.{samePart, sameMegabyte, sameBank}
-use Rattle.alike.proofs.MegabyteLaws.{Part, part, part-same, reach, reach-cells, row-reach, reach-row}
+use Rattle.banks.proofs.MegabyteLaws.{bounded-large, reach, reach-cells}
+use Rattle.alike.proofs.MegabyteLaws.{part, part-same, row-reach, reach-row}
 use Rattle.alike.proofs.AlikeLaws.{both, both-right, equal-tests, alike-every}
 
 -- ---- remainders within a window
@@ -154,8 +155,8 @@ same-part : (b c : Bank) → Bounded b → Bounded c → Fitting b → Fitting c
 same-part b c d e f g h m l u =
     let p = part (b .start) b c (h .at-start) in
     let q = part (b .last) b c (h .at-last) in
-    let w : b .last < b .start + reach b = omega (arith, f .roomy, reach-cells b d) in
-    let v : b .last < b .start + reach c = omega (arith, g .roomy, reach-cells c e, h .start, h .last) in
+    let w : b .last < b .start + reach b = omega (arith, f .roomy, reach-cells b (bounded-large b d)) in
+    let v : b .last < b .start + reach c = omega (arith, g .roomy, reach-cells c (bounded-large c e), h .start, h .last) in
     let r = same-within (b .rows + b .columns - 17) (c .rows + c .columns - 17) (b .start) (b .last) m
     (row-reach b c d e (b .start) p) (row-reach b c d e (b .last) q) l u w v in
     part-same m b c (reach-row b c d e m (p .columns) r)

@@ -6,38 +6,18 @@ use Prim.Native.Nat.{ℕ, _+_, _-_, _*_, _/_, _%_, _^_, _<_}
 use native.Mathlib.Nat.{add-zero, add-comm, mul-assoc, add-mul-mod-self-right, mod-eq-of-lt, mod-self}
 use native.Mathlib.Omega.{arith}
 use lib.Dec.{ltb, eqb}
-use lib.Arith.{mod-mul}
 use lib.Pow.{pow-add, pow-pos, pow-lt, shl-shr}
 use borrow.Author.Tests.{ltb-true, ltb-false, eqb-true, eq-eqb}
 use Rattle.basics.proofs.Bools.{and-left, and-right}
 use Rattle.basics.proofs.RangeLaws.{byCases}
 use Rattle.banks.specs.declared.Bank.{Bank}
 use Rattle.banks.specs.Setup.{Bounded}
-use Rattle.banks.specs.Map.{cells, cellInBank, rowOf, columnOf}
+use Rattle.banks.specs.Map.{cellInBank, rowOf, columnOf}
+use Rattle.banks.proofs.MegabyteLaws.{bounded-large, reach, cell-by-megabyte}
 use Rattle.alike.specs.Alike.{samePlace}
 use Rattle.alike.specs.CodeMegabyte.{samePart}
 
--- the megabytes that a bank's cells number
-abbrev pub reach : Bank → ℕ
-reach b = 2 ^ (b .rows + b .columns - 17)
-
 module _ (b : Bank) (d : Bounded b) where
-  pub reach-cells : cells b ≡ reach b * 2 ^ 17
-  unfolding cells
-  reach-cells =
-      let k = b .rows + b .columns in
-      let e : k ≡ (k - 17) + 17 = omega arith in
-      ap (λ (x : ℕ). 2 ^ x) e ∙ pow-add 2 (k - 17) 17
-
-  -- the number of an address within its bank, by its megabyte
-  cell-by-megabyte : (a : ℕ) → cellInBank b a ≡ (a / 2 ^ 20 % reach b) * 2 ^ 17 + a / 8 % 2 ^ 17
-  unfolding cellInBank
-  cell-by-megabyte a =
-      let e : a / 8 / 2 ^ 17 ≡ a / 2 ^ 20 = omega arith in
-      rw reach-cells
-      (mod-mul (a / 8) {m = reach b} {c = 2 ^ 17} (pow-pos (b .rows + b .columns - 17)) (omega arith)
-      ∙ ap (λ (x : ℕ). x % reach b * 2 ^ 17 + a / 8 % 2 ^ 17) e)
-
   -- a number of megabytes, as a number of rows
   by-rows : (q : ℕ) → q * 2 ^ 17 ≡ q * 2 ^ (17 - b .columns) * 2 ^ b .columns
   by-rows q =
@@ -52,7 +32,7 @@ module _ (b : Bank) (d : Bounded b) where
       let q = m % reach b in
       let e1 : m * 2 ^ 20 / 2 ^ 20 ≡ m = omega arith in
       let e2 : m * 2 ^ 20 / 8 % 2 ^ 17 ≡ 0 = omega arith in
-      let w : cellInBank b (m * 2 ^ 20) ≡ q * 2 ^ 17 + 0 = rw (e1, e2) at (cell-by-megabyte (m * 2 ^ 20)) in
+      let w : cellInBank b (m * 2 ^ 20) ≡ q * 2 ^ 17 + 0 = rw (e1, e2) at (cell-by-megabyte b (bounded-large b d) (m * 2 ^ 20)) in
       ap (λ (x : ℕ). x / 2 ^ k) (w ∙ add-zero (q * 2 ^ 17) ∙ by-rows q) ∙ shl-shr (q * 2 ^ (17 - k)) k
 
   -- the column does not depend on the megabyte
@@ -63,7 +43,7 @@ module _ (b : Bank) (d : Bounded b) where
       let q = a / 2 ^ 20 % reach b in
       let u = a / 8 % 2 ^ 17 in
       let v : q * 2 ^ 17 + u ≡ u + q * 2 ^ (17 - k) * 2 ^ k = add-comm (q * 2 ^ 17) u ∙ ap (λ (x : ℕ). u + x) (by-rows q) in
-      ap (λ (x : ℕ). x % 2 ^ k) (cell-by-megabyte a ∙ v) ∙ add-mul-mod-self-right u (q * 2 ^ (17 - k)) (2 ^ k)
+      ap (λ (x : ℕ). x % 2 ^ k) (cell-by-megabyte b (bounded-large b d) a ∙ v) ∙ add-mul-mod-self-right u (q * 2 ^ (17 - k)) (2 ^ k)
 
 shl-injective : (k q q′ : ℕ) → q * 2 ^ k ≡ q′ * 2 ^ k → q ≡ q′
 shl-injective k q q′ e = sym (shl-shr q k) ∙ ap (λ (x : ℕ). x / 2 ^ k) e ∙ shl-shr q′ k
@@ -145,7 +125,7 @@ module _ (b c : Bank) (d : Bounded b) (e : Bounded c) where
   cell-in-bank-alike : (a : ℕ) → Part (a / 2 ^ 20) b c → cellInBank b a ≡ cellInBank c a
   cell-in-bank-alike a s =
       let q = row-reach (a / 2 ^ 20) s in
-      cell-by-megabyte b d a ∙ ap (λ (x : ℕ). x * 2 ^ 17 + a / 8 % 2 ^ 17) q ∙ sym (cell-by-megabyte c e a)
+      cell-by-megabyte b (bounded-large b d) a ∙ ap (λ (x : ℕ). x * 2 ^ 17 + a / 8 % 2 ^ 17) q ∙ sym (cell-by-megabyte c (bounded-large c e) a)
 
   -- the test of a megabyte answers for each of its addresses
   pub part-place : (a : ℕ) → samePart (a / 2 ^ 20) b c ≡ true → samePlace a b c ≡ true

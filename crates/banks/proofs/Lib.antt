@@ -5,4 +5,5 @@ pub mod StoreLaws
 pub mod SpanLaws
 pub mod AcceptedLaws
 pub mod CellLaws
+pub mod MegabyteLaws
 pub mod MapLaws

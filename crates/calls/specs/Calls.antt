@@ -1,7 +1,9 @@
 -- Memory calls, the accesses that they consist of, and what these give.
-use Prim.Native.Nat.{ℕ, _+_, _*_, _/_, _%_}
+use Prim.Native.Nat.{ℕ, _+_, _-_, _*_, _/_, _%_}
+use mathlib.Core.Bool.{Bool, cond}
 use mathlib.Core.List.{List, [], _∷_}
-use lib.ListN.{take, drop}
+use lib.Dec.{ltb}
+use lib.ListN.{length, take, drop}
 use Rattle.refusals.specs.Paper.{Outcome}
 use Rattle.calls.specs.declared.Kind.{Kind}
 
@@ -41,10 +43,24 @@ beatBytes bs i = take 8 (drop (8 * i) bs)
 abbrev pub fourBeats : (ℕ → Access) → List Access
 fourBeats beat = beat 0 ∷ beat 1 ∷ beat 2 ∷ beat 3 ∷ []
 
--- MEM-1: the accesses of a call, in order. MEM-13: a burst has four, each of all eight bytes of a doubleword
+-- MEM-17: n bytes at the address a run into the next doubleword
+unfoldable pub crosses : ℕ → ℕ → Bool
+crosses a n = ltb 8 (a % 8 + n)
+
+-- MEM-17: how many bytes there are from the address a to the end of its doubleword
+unfoldable pub room : ℕ → ℕ
+room a = 8 - a % 8
+
+-- MEM-17: the address of the doubleword behind that of the address a
+unfoldable pub nextDoubleword : ℕ → ℕ
+nextDoubleword a = a + room a
+
+-- MEM-1: the accesses of a call, in order. MEM-17, MEM-18: a read or write over the end of a doubleword has two, the lower address first. MEM-13: a
+-- burst has four, each of all eight bytes of a doubleword
 unfoldable pub parts : MemoryCall → List Access
-parts (read a n) = readIn a n ∷ []
-parts (write a bs) = writeIn a bs ∷ []
+parts (read a n) = cond (crosses a n) (readIn a (room a) ∷ readIn (nextDoubleword a) (n - room a) ∷ []) (readIn a n ∷ [])
+parts (write a bs) =
+    cond (crosses a (length bs)) (writeIn a (take (room a) bs) ∷ writeIn (nextDoubleword a) (drop (room a) bs) ∷ []) (writeIn a bs ∷ [])
 parts (flip a b) = flipIn a b ∷ []
 parts (scrub a) = scrubIn a ∷ []
 parts (burstRead a n) = fourBeats (λ i. readIn (beatAddress a i) 8)

@@ -1,5 +1,5 @@
 -- What follows from the arguments of a call and the spans alone; the cells and the flat machine share it.
-use Prim.Native.Nat.{ℕ, _+_, _%_}
+use Prim.Native.Nat.{ℕ, _+_, _%_, _^_}
 use mathlib.Core.Bool.{Bool, not, _||_}
 use mathlib.Core.List.{[], _∷_}
 use mathlib.Core.Option.{none}
@@ -13,9 +13,9 @@ use Rattle.calls.specs.Calls.{MemoryCall, read, write, flip, scrub, burs
 pub record Spans : Type 0 where
   pub holds : ℕ → Bool
 
--- REF-6, REF-7: the count, and the end of the doubleword
+-- REF-6, REF-7: the count, and the last address
 unfoldable pub byCount : ℕ → ℕ → Declined
-byCount a n = refuse (eqb n 0 || ltb 8 n) (6 ∷ []) else refuse (ltb 8 (a % 8 + n)) (7 ∷ [])
+byCount a n = refuse (eqb n 0 || ltb 8 n) (6 ∷ []) else refuse (ltb (2 ^ 32) (a + n)) (7 ∷ [])
 
 -- REF-8: the bit of a flip
 unfoldable pub byBit : ℕ → Declined

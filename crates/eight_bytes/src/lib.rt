@@ -1,7 +1,7 @@
 // Eight bytes as one number, the first lowest.
 ghost use mathlib.Core.Path.{_≡_};
 ghost use Prim.Native.Nat.{_+_, _*_, _<_};
-ghost use Rattle.eight_bytes.specs.CodeNumber.{bytesIn, eightAt};
+ghost use Rattle.eight_bytes.specs.CodeNumber.{bytesIn, eightAt, eightAcross};
 
 fn wide(x: u8) -> u64
     ensures { λ r. ⌜ r ≡ x ⌝ }
@@ -52,4 +52,15 @@ pub fn bytes_of(x: u64) -> [u8; 8]
         (g % 256) as u8,
         (h % 256) as u8,
     ]
+}
+
+// Eight bytes of two numbers, of which the second continues the first: those from byte `from` modulo 8 of the first on.
+pub fn number_across(first: u64, second: u64, from: u32) -> u64
+    ensures { λ r. ⌜ bytesIn 8 r ≡ eightAcross first second from ⌝ }
+{
+    let bits = 8 * (from % 8);
+    if bits == 0 {
+        return first;
+    }
+    (first >> bits) + (second << (64 - bits))
 }

@@ -1,5 +1,5 @@
 -- What the two machines answer to a few short lists, computed, and that the lists keep the premise.
-use Prim.Native.Nat.{ℕ}
+use Prim.Native.Nat.{ℕ, _+_}
 use mathlib.Core.Path.{_≡_, refl}
 use mathlib.Core.Bool.{true}
 use mathlib.Core.List.{List, [], _∷_, _++_}
@@ -18,7 +18,7 @@ use Rattle.ecc.specs.Lending.{cellAt, putCell, isLent}
 use Rattle.error_registers.specs.Errors.{bitSet, undetected, withErrorAddress, detected, triggered, rose, counted, reported}
 use Rattle.calls.specs.declared.Kind.{Kind}
 use Rattle.calls.specs.declared.Kind.the-variants.{Clean, Corrected, Uncorrectable, Stored, NoBank, Flipped}
-use Rattle.calls.specs.Calls.{read, write, flip, scrub, burstRead, burstWrite, beatAddress, parts, Got, got, Given, Call, memory, readRegister, writeRegister}
+use Rattle.calls.specs.Calls.{read, write, flip, scrub, burstRead, burstWrite, beatAddress, crosses, room, nextDoubleword, parts, Got, got, Given, Call, memory, readRegister, writeRegister}
 use Rattle.calls.specs.Spans.{Spans, byCount, byBit, byBurst, byArguments, bySpans, byCall, missed}
 use Rattle.calls.specs.State.{state}
 use Rattle.machine.specs.Cells.{merge, readCell, mergeCell, writeCell, scrubCell, onCell}
@@ -49,8 +49,8 @@ zeros k = got k (replicate 8 0)
 abbrev pub readOnce : List Call
 readOnce = memory (read 0 1) ∷ []
 
--- two flips of a doubleword, and between them nothing that renews it: a read, a scrub of the next doubleword, a burst read, a refused write, a
--- refused burst write
+-- two flips of a doubleword, and between them nothing that renews it: a read, a scrub of the next doubleword, a burst read, a split read, refused
+-- writes of each kind
 abbrev pub flippedTwice : List Call
 flippedTwice =
     memory (scrub 0)
@@ -58,7 +58,9 @@ flippedTwice =
     ∷ memory (read 0 1)
     ∷ memory (scrub 8)
     ∷ memory (burstRead 8 32)
+    ∷ memory (read 7 2)
     ∷ memory (write 0 [])
+    ∷ memory (write 0xFFFFFFFF (0 ∷ 0 ∷ []))
     ∷ memory (burstWrite 4 (replicate 32 0))
     ∷ memory (flip 0 1)
     ∷ memory (read 0 1)
@@ -72,7 +74,9 @@ flippedTwiceThen last =
     ∷ answered Corrected (0 ∷ [])
     ∷ answered Clean []
     ∷ some (given (zeros Clean ∷ zeros Clean ∷ zeros Clean ∷ zeros Corrected ∷ []))
+    ∷ some (given (got Corrected (0 ∷ []) ∷ got Clean (0 ∷ []) ∷ []))
     ∷ declinedWith 6
+    ∷ declinedWith 7
     ∷ declinedWith 19
     ∷ answered Flipped []
     ∷ last
@@ -91,8 +95,9 @@ flippedThenReadTwice = memory (flip 0 0) ∷ memory (read 0 1) ∷ memory (read 
 abbrev pub otherCell : List ℕ
 otherCell = encode columns (0x80 ∷ replicate 7 0)
 
--- ---- one long list: full and short writes, reads, flips of data and check bits, scrubs, bursts, no bank, refusals 6, 7, 8, 10, 19 and 20, and
--- register calls, some of them refused with 1 and 2. Between the flips of bits 63 and 1 at 10 stands a burst write that starts at 18
+-- ---- one long list: full and short writes, reads, flips of data and check bits, scrubs, bursts, splits, no bank, refusals 6, 7, 8, 10, 19 and 20,
+-- and register calls, some of them refused with 1 and 2. Between the flips of bits 63 and 1 at 10 stands a burst write that starts at 18; between the
+-- last flips at 08 and at 10, two of each, a split write
 
 abbrev outside : ℕ
 outside = 0x00100000
@@ -127,10 +132,13 @@ longSteps =
     ∷ (memory (read 0x17 1), answered Corrected (7 ∷ []))
     ∷ (memory (read 0x10 0), declinedWith 6)
     ∷ (memory (write 0x10 (replicate 9 0)), declinedWith 6)
-    ∷ (memory (read 0x17 2), declinedWith 7)
+    ∷ (memory (read 0x17 2), some (given (got Corrected (7 ∷ []) ∷ got Clean (0 ∷ []) ∷ [])))
+    ∷ (memory (read 0xFFFFFFFC 4), answered NoBank (replicate 4 0xFF))
+    ∷ (memory (read 0xFFFFFFFC 5), declinedWith 7)
     ∷ (memory (flip outside 0), declinedWith 10)
     ∷ (memory (read outside 2), answered NoBank (0xFF ∷ 0xFF ∷ []))
     ∷ (memory (write outside (1 ∷ [])), answered NoBank [])
+    ∷ (memory (read (outside + 5) 4), some (given (got NoBank (replicate 3 0xFF) ∷ got NoBank (0xFF ∷ []) ∷ [])))
     ∷ (memory (scrub outside), answered NoBank [])
     ∷ (readRegister 0xBA, none)
     ∷ (writeRegister 0xC8 1, none)
@@ -147,6 +155,11 @@ longSteps =
       memory (burstRead 0x08 32),
       some (given (got Clean (replicate 8 3) ∷ got Corrected (replicate 8 4) ∷ got Clean (replicate 8 1) ∷ got Clean (replicate 8 2) ∷ [])),
     )
+    ∷ (memory (flip 0x08 3), answered Flipped [])
+    ∷ (memory (write 0x0E (0x21 ∷ 0x22 ∷ 0x23 ∷ 0x24 ∷ [])), some (given (got Corrected [] ∷ got Corrected [] ∷ [])))
+    ∷ (memory (flip 0x0F 70), answered Flipped [])
+    ∷ (memory (flip 0x13 0), answered Flipped [])
+    ∷ (memory (read 0x0C 8), some (given (got Corrected (3 ∷ 3 ∷ 0x21 ∷ 0x22 ∷ []) ∷ got Corrected (0x23 ∷ 0x24 ∷ 4 ∷ 4 ∷ []) ∷ [])))
     ∷ (memory (burstRead 0x0C 31), declinedWith 19)
     ∷ (memory (burstRead 0x08 31), declinedWith 20)
     ∷ (memory (burstWrite 0x08 []), declinedWith 20)
@@ -219,8 +232,8 @@ pub computed : Computed
 unfolding bankOff bankOn startOf lastOf enabledOf rowBits megabytes fits columnBits enabledBank bankOf setupOf firstOf first sum lowest inverted tooLong
     faulty faultOf meets meetsLower lowestMeeting judged ready notReady holds bankAt cells cellInBank rowOf columnOf share cellsBelow placeOf inSpan located
     cellOf listed readOnly badValue locked clearing switchesOn declined newByte written bitAt dataBit flipColumn xorOf checkOf syndromeOf bitReading readingOf
-    maskOf flipBit encode rightBy cellReading loadOf cellAt putCell isLent bitSet undetected withErrorAddress detected triggered rose counted reported beatAddress parts byCount
-    byBit byBurst byArguments bySpans byCall missed merge readCell mergeCell writeCell scrubCell onCell unlentAt unlent refusal onTarget accessAt access accesses
+    maskOf flipBit encode rightBy cellReading loadOf cellAt putCell isLent bitSet undetected withErrorAddress detected triggered rose counted reported beatAddress crosses
+    room nextDoubleword parts byCount byBit byBurst byArguments bySpans byCall missed merge readCell mergeCell writeCell scrubCell onCell unlentAt unlent refusal onTarget accessAt access accesses
     performed memoryCall call run blank withBytes withMark flatInSpan flatAccess flatAccesses flatPerformed flatCall flatRun acceptedOf flips renews anyOf
     reach reachOf reachAll slipping octet isAtErrorRegisters allAtErrorRegisters renewedBefore eachRenewed isSpaced
 computed =

@@ -1,11 +1,11 @@
 -- The comparison of a list with the flat machine.
-use Prim.Native.Nat.{ℕ, _+_, _/_, _%_, _≤_, _<_}
+use Prim.Native.Nat.{ℕ, _/_}
 use mathlib.Core.Path.{_≡_, refl, sym, ap, ap₂, _∙_}
 use mathlib.Core.Bool.{true}
 use mathlib.Core.Option.{Option, none, some}
 use mathlib.Core.List.{List, [], _∷_, _++_}
-use native.Mathlib.Omega.{arith}
-use lib.ListN.{length, replicate}
+use lib.ListN.{replicate}
+use Rattle.basics.specs.Lists.{All}
 use Rattle.refusals.specs.Paper.{Declined, given}
 use Rattle.refusals.proofs.ChainLaws.{else-none, else-left}
 use Rattle.registers.specs.declared.Registers.{Registers}
@@ -16,37 +16,21 @@ use Rattle.banks.proofs.MapLaws.{isSome, MapLaws, map-laws}
 use Rattle.register_calls.proofs.SwitchLaws.{setup-written, ready-written}
 use Rattle.ecc.specs.Columns.{columns, accepted}
 use Rattle.ecc.proofs.ColumnLaws.{columns-accepted}
-use Rattle.calls.specs.Calls.{MemoryCall, read, write, flip, scrub, burstRead, burstWrite, Access, addressOf, beatAddress, beatBytes, parts, Got, Given, Call, memory, readRegister, writeRegister}
+use Rattle.calls.specs.Calls.{MemoryCall, Access, addressOf, parts, Got, Given, Call, memory, readRegister, writeRegister}
 use Rattle.calls.specs.Spans.{Spans, byArguments, bySpans, byCall}
 use Rattle.calls.specs.State.{State, state}
-use Rattle.calls.proofs.SpanLaws.{count-fits, bit-fits, burst-fits}
-use Rattle.calls.proofs.BeatLaws.{beat-aligned, beat-length}
+use Rattle.calls.proofs.PartLaws.{Fits, parts-fit}
 use Rattle.machine.specs.Calls.{spansOf, unlentAt, unlent, refusal, access, accesses, performed, memoryCall}
 use Rattle.call_lists.specs.Lists.{call, run}
 use Rattle.flat.specs.Flat.{Flat, blank, flatAccess, flatAccesses, flatPerformed, flatCall, flatRun}
-use Rattle.flat.specs.Comparison.{SwitchedOn, AtErrorRegisters, All, ifAccepted, acceptedOf, FlatComparison}
-use Rattle.flat.proofs.Doubleword.{Allowed}
+use Rattle.flat.specs.Comparison.{SwitchedOn, AtErrorRegisters, ifAccepted, acceptedOf, FlatComparison}
 use Rattle.flat.proofs.Simulation.{InStep, start, is-lent, Alike, access-alike}
 use Rattle.flat.proofs.Premise.{acceptedAll, NoFlipFindsMark, spaced-no-flip}
 
 -- the accesses of a call that is not refused
-arguments-allowed : (c : MemoryCall) → byArguments c ≡ none → All Allowed (parts c)
-unfolding byArguments parts
-arguments-allowed (read a n) e = (count-fits a n e, tt)
-arguments-allowed (write a bs) e = (count-fits a (length bs) e, tt)
-arguments-allowed (flip a b) e = (bit-fits b e, tt)
-arguments-allowed (scrub a) e = (tt, tt)
-arguments-allowed (burstRead a n) e =
-    let beat : (i : ℕ) → beatAddress a i % 8 + 8 ≤ 8 = λ i. omega (arith, beat-aligned a i (burst-fits a n e .0)) in
-    (beat 0, (beat 1, (beat 2, (beat 3, tt))))
-arguments-allowed (burstWrite a bs) e =
-    let h = burst-fits a (length bs) e in
-    let beat : (i : ℕ) → i < 4 → beatAddress a i % 8 + length (beatBytes bs i) ≤ 8 = λ i l. omega (arith, beat-aligned a i (h .0), beat-length bs i (h .1) l) in
-    (beat 0 (omega arith), (beat 1 (omega arith), (beat 2 (omega arith), (beat 3 (omega arith), tt))))
-
-all-allowed : (spans : Spans) (c : MemoryCall) → byCall spans c ≡ none → All Allowed (parts c)
+call-fits : (spans : Spans) (c : MemoryCall) → byCall spans c ≡ none → All Fits (parts c)
 unfolding byCall
-all-allowed spans c e = arguments-allowed c (else-left (byArguments c) (bySpans spans c) e)
+call-fits spans c e = parts-fit c (else-left (byArguments c) (bySpans spans c) e)
 
 no-flip-append : (spans : Spans) (f : Flat) (xs ys : List Access) → NoFlipFindsMark spans f (xs ++ ys)
     → NoFlipFindsMark spans f xs × NoFlipFindsMark spans (flatAccesses spans f xs .1) ys
@@ -63,7 +47,7 @@ module _ (cols : List ℕ) (good : accepted cols ≡ true) (s : Setup) (map : Ma
   abbrev Step : State → Flat → Type 0
   Step = InStep cols good s map
 
-  accesses-alike : (xs : List Access) (st : State) (f : Flat) → Step st f → All Allowed xs → NoFlipFindsMark spans f xs
+  accesses-alike : (xs : List Access) (st : State) (f : Flat) → Step st f → All Fits xs → NoFlipFindsMark spans f xs
       → (accesses cols st xs .0 ≡ flatAccesses spans f xs .0) × Step (accesses cols st xs .1) (flatAccesses spans f xs .1)
   unfolding accesses flatAccesses
   accesses-alike [] st f m r g = (refl, m)
@@ -101,7 +85,7 @@ module _ (cols : List ℕ) (good : accepted cols ≡ true) (s : Setup) (map : Ma
       go (some n) e h = record { answer = refl; next = m; rest = h }
       go none e h =
           let k = no-flip-append spans f (parts c) ys h in
-          let r = accesses-alike (parts c) st f m (all-allowed spans c e) (k .0) in
+          let r = accesses-alike (parts c) st f m (call-fits spans c e) (k .0) in
           record { answer = ap given (r .0); next = r .1; rest = k .1 }
 
   call-alike : (st : State) (f : Flat) → Step st f → (c : Call) (cs : List Call) → AtErrorRegisters c → NoFlipFindsMark spans f (acceptedAll spans (c ∷ cs))

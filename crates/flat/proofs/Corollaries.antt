@@ -7,6 +7,7 @@ use mathlib.Core.List.{List, [], _∷_}
 use native.Mathlib.Omega.{arith}
 use lib.Dec.{eqb}
 use lib.ListN.{length, replicate, getElem?, take}
+use Rattle.basics.specs.Lists.{All}
 use Rattle.refusals.specs.Paper.{Declined, refused, given}
 use Rattle.registers.specs.declared.Registers.{Registers}
 use Rattle.banks.specs.Setup.{setupOf}
@@ -21,7 +22,7 @@ use Rattle.calls.specs.State.{state}
 use Rattle.machine.specs.Calls.{spansOf}
 use Rattle.call_lists.specs.Lists.{run}
 use Rattle.flat.specs.Flat.{Flat, blank, byMark, flatInSpan, flatAccess, flatAccesses, flatPerformed, flatCall, flatRun}
-use Rattle.flat.specs.Comparison.{SwitchedOn, AtErrorRegisters, All, Spaced, FlatComparison}
+use Rattle.flat.specs.Comparison.{SwitchedOn, AtErrorRegisters, Spaced, FlatComparison}
 use Rattle.flat.proofs.Comparison.{comparison}
 
 -- ---- no answer is "uncorrectable"

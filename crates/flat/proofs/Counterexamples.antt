@@ -1,12 +1,13 @@
 -- Each condition of `flat-comparison` is needed: without it the statement is false, as a list shows that keeps the other conditions. And DEM-5: the
 -- statement is false of machines that lose the bytes of a write or correct only at the first read.
-use Prim.Native.Nat.{ℕ, _+_, _*_, _^_, _≤_}
+use Prim.Native.Nat.{ℕ, _*_, _^_, _≤_}
 use mathlib.Core.Path.{_≡_, sym, ap, _∙_}
 use mathlib.Core.Option.{Option, none, some}
 use mathlib.Core.Bool.{true}
 use mathlib.Core.List.{List, [], _∷_, _++_}
 use native.Mathlib.Omega.{arith}
 use lib.ListN.{length, getD, replicate, length-append, length-replicate}
+use Rattle.basics.specs.Lists.{All}
 use Rattle.refusals.specs.Paper.{refused, given}
 use Rattle.registers.specs.declared.Registers.{Registers}
 use Rattle.banks.specs.Setup.{setupOf}
@@ -20,7 +21,7 @@ use Rattle.calls.specs.State.{State, state}
 use Rattle.machine.specs.Calls.{setup, spansOf}
 use Rattle.call_lists.specs.Lists.{run}
 use Rattle.flat.specs.Flat.{blank, flatRun}
-use Rattle.flat.specs.Comparison.{SwitchedOn, AtErrorRegisters, All, Spaced, FlatComparison}
+use Rattle.flat.specs.Comparison.{SwitchedOn, AtErrorRegisters, Spaced, FlatComparison}
 use Rattle.call_lists.proofs.LendingLaws.{reachAll, run-first, run-zeros}
 use Rattle.flat.proofs.PremiseTests.{spaced}
 use Rattle.flat.proofs.Comparison.{flat-comparison}
@@ -80,7 +81,7 @@ pub spacing-needed :
     → ⊥
 spacing-needed claim =
     differ (lent-enough 36 (omega arith) flippedTwice (computed .twice-reached) (computed .twice-cells)) (computed .twice-flat)
-    (claim bankOn switched-on enough on-enough flippedTwice (tt, (tt, (tt, (tt, (tt, (tt, (tt, (tt, (tt, tt)))))))))) (λ z. let k = kind-at 8 z in never (cc))
+    (claim bankOn switched-on enough on-enough flippedTwice (tt, (tt, (tt, (tt, (tt, (tt, (tt, (tt, (tt, (tt, (tt, tt)))))))))))) (λ z. let k = kind-at 10 z in never (cc))
 
 -- a register call elsewhere: memory is switched off, and the flat machine has no refusal 5
 pub error-registers-needed :

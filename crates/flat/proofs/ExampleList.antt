@@ -3,13 +3,14 @@ use Prim.Native.Nat.{ℕ, _*_, _≤_}
 use mathlib.Core.Path.{_≡_, _∙_}
 use native.Mathlib.Omega.{arith}
 use lib.ListN.{replicate}
+use Rattle.basics.specs.Lists.{All}
 use Rattle.banks.specs.Setup.{setupOf}
 use Rattle.banks.specs.Map.{cellCount}
 use Rattle.ecc.specs.Columns.{columns}
 use Rattle.calls.specs.State.{state}
 use Rattle.call_lists.specs.Lists.{run}
 use Rattle.flat.specs.Flat.{blank, flatRun}
-use Rattle.flat.specs.Comparison.{SwitchedOn, AtErrorRegisters, All, Spaced}
+use Rattle.flat.specs.Comparison.{SwitchedOn, AtErrorRegisters, Spaced}
 use Rattle.call_lists.proofs.LendingLaws.{run-zeros}
 use Rattle.flat.proofs.PremiseTests.{all-at-error-registers, spaced}
 use Rattle.flat.proofs.OneBank.{bankOn, switched-on, bytes-on}

@@ -7,11 +7,12 @@ use mathlib.Core.List.{List, [], _∷_, _++_}
 use native.Mathlib.Omega.{arith}
 use native.Mathlib.Nat.{le-of-suc-le-suc, not-suc-le-zero}
 use lib.Dec.{eqb}
+use lib.ListN.{length}
 use borrow.Author.Tests.{eqb-true, eqb-false, eq-eqb}
 use Rattle.basics.proofs.Bools.{and-right, or-left, or-right}
 use Rattle.basics.proofs.RangeLaws.{byCases, contra}
 use Rattle.refusals.specs.Paper.{Declined}
-use Rattle.calls.specs.Calls.{MemoryCall, read, write, flip, scrub, burstRead, burstWrite, Access, readIn, writeIn, flipIn, scrubIn, addressOf, parts}
+use Rattle.calls.specs.Calls.{MemoryCall, read, write, flip, scrub, burstRead, burstWrite, Access, readIn, writeIn, flipIn, scrubIn, addressOf, crosses, parts}
 use Rattle.calls.specs.Calls.{Call, memory, readRegister, writeRegister}
 use Rattle.calls.specs.Spans.{Spans, byCall, missed}
 use Rattle.flat.specs.Flat.{Flat, withMark, flatInSpan, flatAccess, blank}
@@ -46,16 +47,32 @@ skip q (x ∷ xs) ys n k = go (renews q x) refl (skip q xs ys (or-right (flips q
     go true e more = refl
     go false e more = rw (or-left (flips q x) (anyOf (flips q) xs) n) (more (λ m. k (rw e m)))
 
--- a call flips in its last access or not at all; a burst never does
+-- accesses that flip nothing come before any others
+unflipping : (xs ys : List Access) → ((q : ℕ) → anyOf (flips q) xs ≡ false) → Apart ys → Apart (xs ++ ys)
+unfolding anyOf
+unflipping [] ys n rest = rest
+unflipping (x ∷ xs) ys n rest =
+    (λ q t. contra t (or-left (flips q x) (anyOf (flips q) xs) (n q)), unflipping xs ys (λ q. or-right (flips q x) (anyOf (flips q) xs) (n q)) rest)
+
+-- reads and writes flip nothing, in however many accesses
+read-unflipping : (a n q : ℕ) → anyOf (flips q) (parts (read a n)) ≡ false
+unfolding parts anyOf flips
+read-unflipping a n q = byCases (crosses a n) (λ t. rw t) (λ t. rw t)
+
+write-unflipping : (a : ℕ) (bs : List ℕ) (q : ℕ) → anyOf (flips q) (parts (write a bs)) ≡ false
+unfolding parts anyOf flips
+write-unflipping a bs q = byCases (crosses a (length bs)) (λ t. rw t) (λ t. rw t)
+
+-- only a flip flips, and it has one access
 apart-parts : (c : MemoryCall) (ys : List Access) → Apart ys → ((q : ℕ) → anyOf (flips q) (parts c) ≡ true → renewedFirst q ys ≡ true)
     → Apart (parts c ++ ys)
 unfolding parts anyOf flips
-apart-parts (read a n) ys rest k = (λ q t. k q (rw t), rest)
-apart-parts (write a bs) ys rest k = (λ q t. k q (rw t), rest)
+apart-parts (read a n) ys rest k = unflipping (parts (read a n)) ys (read-unflipping a n) rest
+apart-parts (write a bs) ys rest k = unflipping (parts (write a bs)) ys (write-unflipping a bs) rest
 apart-parts (flip a b) ys rest k = (λ q t. k q (rw t), rest)
 apart-parts (scrub a) ys rest k = (λ q t. k q (rw t), rest)
-apart-parts (burstRead a n) ys rest k = (λ q t. contra t refl, (λ q t. contra t refl, (λ q t. contra t refl, (λ q t. contra t refl, rest))))
-apart-parts (burstWrite a bs) ys rest k = (λ q t. contra t refl, (λ q t. contra t refl, (λ q t. contra t refl, (λ q t. contra t refl, rest))))
+apart-parts (burstRead a n) ys rest k = unflipping (parts (burstRead a n)) ys (λ q. refl) rest
+apart-parts (burstWrite a bs) ys rest k = unflipping (parts (burstWrite a bs)) ys (λ q. refl) rest
 
 module _ (spans : Spans) where
   -- at some place before the next flip of q it takes a write or a scrub

@@ -7,12 +7,13 @@ use native.Mathlib.Omega.{arith}
 use native.Mathlib.Nat.{le-of-suc-le-suc, not-suc-le-zero}
 use lib.Dec.{leb, eqb}
 use borrow.Author.Tests.{eqb-true, leb-true}
+use Rattle.basics.specs.Lists.{All}
 use Rattle.basics.proofs.Bools.{and-left, and-right}
 use Rattle.basics.proofs.RangeLaws.{byCases, contra}
 use Rattle.register_calls.specs.Calls.{within}
 use Rattle.calls.specs.Calls.{Access, readIn, writeIn, flipIn, scrubIn, Call, memory, readRegister, writeRegister}
 use Rattle.calls.specs.Spans.{Spans}
-use Rattle.flat.specs.Comparison.{AtErrorRegisters, All, acceptedOf, flips, renews, anyOf, flippedAt, renewedAt, Spaced}
+use Rattle.flat.specs.Comparison.{AtErrorRegisters, acceptedOf, flips, renews, anyOf, flippedAt, renewedAt, Spaced}
 
 -- ---- register calls at B8 to CB only
 

@@ -19,13 +19,14 @@ use Rattle.ecc.proofs.Laws.{encode-zeros}
 use Rattle.ecc.proofs.CellLaws.{fits-lent, put-same, put-other, cell-zeros}
 use Rattle.calls.specs.Calls.{Access, addressOf, Got}
 use Rattle.calls.specs.Spans.{missed}
+use Rattle.calls.proofs.PartLaws.{Fits}
 use Rattle.calls.specs.State.{State, state}
 use Rattle.error_registers.specs.Errors.{reported}
 use Rattle.machine.specs.Cells.{onCell}
 use Rattle.machine.specs.Calls.{spansOf, putAt, onTarget, access, accessAt}
 use Rattle.flat.specs.Flat.{Flat, flatInSpan, flatAccess, blank}
 use Rattle.flat.proofs.Octets.{octet, octet-length, octet-zero}
-use Rattle.flat.proofs.Doubleword.{Allowed, FindsNoMark, MarksBelow72, marks-below, Untouched, others-untouched, coded, coded-length, StandsFor, Agree, agree}
+use Rattle.flat.proofs.Doubleword.{FindsNoMark, MarksBelow72, marks-below, Untouched, others-untouched, coded, coded-length, StandsFor, Agree, agree}
 use Rattle.machine.proofs.SetupLaws.{setup-reported}
 use Rattle.machine.proofs.StoredLaws.{after, put-at-length}
 
@@ -64,7 +65,7 @@ module _ (cols : List ℕ) (good : accepted cols ≡ true) (s : Setup) (map : Ma
   is-lent st f m a k i = let w : k < cellCount s = map .within a k i in fits-lent (st .cells) k (omega (arith, m .lent))
 
   -- an access to cell k
-  module _ (st : State) (f : Flat) (m : InStep st f) (x : Access) (r : Allowed x) (fr : FindsNoMark f x) (k : ℕ) (i : cellOf s (addressOf x) ≡ some k) where
+  module _ (st : State) (f : Flat) (m : InStep st f) (x : Access) (r : Fits x) (fr : FindsNoMark f x) (k : ℕ) (i : cellOf s (addressOf x) ≡ some k) where
     abbrev old : List ℕ
     old = cellAt (st .cells) k
 
@@ -112,7 +113,7 @@ module _ (cols : List ℕ) (good : accepted cols ≡ true) (s : Setup) (map : Ma
     pub answer : p .0 ≡ q .0
     pub next : InStep (p .1) (q .1)
 
-  pub access-alike : (st : State) (f : Flat) → InStep st f → (x : Access) → Allowed x → FindsNoMark f x
+  pub access-alike : (st : State) (f : Flat) → InStep st f → (x : Access) → Fits x → FindsNoMark f x
       → Alike (access cols st x) (flatAccess (spansOf s) f x)
   unfolding access accessAt onTarget flatAccess
   access-alike st f m x r fr = rw (m .unchanged, map .spanned (addressOf x)) (go (cellOf s (addressOf x)) refl)

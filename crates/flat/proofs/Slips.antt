@@ -29,7 +29,7 @@ no-slip spans f (c ∷ cs) = ap (flatCall spans f c .0 ∷_) (no-slip spans (fla
 abbrev pub writeDropped : Slip
 writeDropped c before after = record { byte = before .byte; mark = after .mark }
 
--- the doubleword that a single read reads
+-- the doubleword in which a read begins; the lists for it have no split
 abbrev pub readBy : Call → Option ℕ
 readBy (memory (read a n)) = some (a / 8)
 readBy (memory (write a bs)) = none

@@ -6,6 +6,7 @@ use mathlib.Core.List.{List, [], _∷_}
 use mathlib.Core.Option.{none, some}
 use lib.Dec.{eqb}
 use lib.ListN.{length, replicate}
+use Rattle.basics.specs.Lists.{All}
 use Rattle.refusals.specs.Paper.{Declined}
 use Rattle.registers.specs.declared.Registers.{Registers}
 use Rattle.banks.specs.Setup.{setupOf}
@@ -32,11 +33,6 @@ abbrev pub AtErrorRegisters : Call → Type 0
 AtErrorRegisters (memory c) = Unit {0}
 AtErrorRegisters (readRegister o) = (0xB8 ≤ o) × (o ≤ 0xCB)
 AtErrorRegisters (writeRegister o v) = (0xB8 ≤ o) × (o ≤ 0xCB)
-
--- P holds of each member
-abbrev pub All : {A : Type 0} → (A → Type 0) → List A → Type 0
-All P [] = Unit {0}
-All P (x ∷ xs) = P x × All P xs
 
 -- ---- the condition of LIST-6: between any two flips that one doubleword takes stands an accepted write or scrub of it
 

@@ -1,22 +1,21 @@
 -- No output line is longer than `longestOutputLine`.
 use mathlib.Core.Path.{_≡_, refl}
-use mathlib.Core.Bool.{_||_}
-use mathlib.Core.List.{List, [], _∷_, append-nil}
+use mathlib.Core.List.{List, [], _∷_, _++_, append-nil}
 use mathlib.Core.Option.{Option, none, some}
-use Prim.Native.Nat.{ℕ, _≤_}
+use Prim.Native.Nat.{ℕ, _-_, _≤_}
 use native.Mathlib.Omega.{arith}
-use lib.Dec.{ltb, eqb}
+use lib.Dec.{ltb}
 use lib.ListN.{length, getD, length-take, length-append, length-replicate}
-use borrow.Author.Tests.{ltb-false}
 use Rattle.basics.proofs.RangeLaws.{byCases}
-use Rattle.basics.proofs.Bools.{or-right}
-use Rattle.refusals.specs.Paper.{Declined, refuse, Outcome, refused, given}
-use Rattle.refusals.proofs.ChainLaws.{else-left, else-right, cause-fails}
+use Rattle.refusals.specs.Paper.{Declined, Outcome, refused, given}
+use Rattle.refusals.proofs.ChainLaws.{else-left, else-right}
 use Rattle.register_calls.specs.Calls.{readAt, declined}
-use Rattle.calls.specs.Calls.{MemoryCall, read, write, flip, scrub, burstRead, burstWrite, readIn, parts, Call, memory, readRegister, writeRegister}
+use Rattle.calls.specs.Calls.{MemoryCall, read, write, flip, scrub, burstRead, burstWrite, readIn, crosses, room, nextDoubleword, parts, Call, memory, readRegister, writeRegister}
 use Rattle.calls.specs.Spans.{byCall, byArguments, byCount, bySpans, missed}
 use Rattle.calls.specs.State.{State}
 use Rattle.calls.specs.Answers.{effectOf}
+use Rattle.calls.proofs.SpanLaws.{count-fits}
+use Rattle.calls.proofs.SplitLaws.{split-rest}
 use Rattle.banks.specs.Judge.{notReady}
 use Rattle.banks.specs.Map.{cellOf}
 use Rattle.machine.specs.Cells.{onCell, readCell}
@@ -52,23 +51,33 @@ module _ (cols : List ℕ) (st : State) where
       go none = omega (arith, length-replicate {A = ℕ} n 0xFF)
       go (some k) = simp length-take (omega arith)
 
-  -- and no more than eight, if it is accepted
-  count-few : (a n : ℕ) → refusal st (read a n) ≡ none → n ≤ 8
-  unfolding refusal byCall byArguments byCount
-  count-few a n e =
-      let c = else-left (byCall (spansOf (setup st)) (read a n)) (unlent st (parts (read a n))) (else-right (notReady (setup st)) _ e) in
-      let first = else-left (refuse (eqb n 0 || ltb 8 n) (6 ∷ [])) _ (else-left (byCount a n) (bySpans (spansOf (setup st)) (read a n)) c) in
-      ltb-false 8 n (or-right (eqb n 0) (ltb 8 n) (cause-fails (eqb n 0 || ltb 8 n) (6 ∷ []) first))
+-- an accepted read has eight bytes at most
+count-few : (st : State) (a n : ℕ) → refusal st (read a n) ≡ none → n ≤ 8
+unfolding refusal byCall byArguments
+count-few st a n e =
+    let c = else-left (byCall (spansOf (setup st)) (read a n)) (unlent st (parts (read a n))) (else-right (notReady (setup st)) _ e) in
+    count-fits a n (else-left (byCount a n) (bySpans (spansOf (setup st)) (read a n)) c) .few
 
+module _ (cols : List ℕ) (st : State) where
   call-few : (c : MemoryCall) (d : Declined) → refusal st c ≡ d → length (callText c (effectOf (performed cols d st (parts c)) [] .answer) (effectOf (performed cols d st (parts c)) [] .buffer)) ≤ longestOutputLine
   unfolding performed accesses callText answerText parts
   call-few c (some n) e = let h = refused-few (letterOf c) (getD n 0 0) in omega arith
   call-few (read a n) none e =
+      let few = count-few st a n e in
+      byCases (crosses a n)
+      (λ t.
+      let next = access cols st (readIn a (room a)) .1 in
+      let one = access cols st (readIn a (room a)) .0 .bytes in
+      let two = access cols next (readIn (nextDoubleword a) (n - room a)) .0 .bytes in
+      let h = read-few cols st a (room a) in
+      let i = read-few cols next (nextDoubleword a) (n - room a) in
+      let more = split-rest a n t in
+      rw (t, append-nil two, length-append (hexPairs (one ++ two)) (0x0A ∷ [])) (omega (arith, pairs-length (one ++ two), length-append one two)))
+      (λ t.
       let bytes = access cols st (readIn a n) .0 .bytes in
-      let few = count-few a n e in
-      let h = read-few a n in
-      rw (append-nil bytes, length-append (hexPairs bytes) (0x0A ∷ [])) (omega (arith, pairs-length bytes))
-  call-few (write a bs) none e = omega arith
+      let h = read-few cols st a n in
+      rw (t, append-nil bytes, length-append (hexPairs bytes) (0x0A ∷ [])) (omega (arith, pairs-length bytes)))
+  call-few (write a bs) none e = byCases (crosses a (length bs)) (λ t. rw t (omega arith)) (λ t. rw t (omega arith))
   call-few (flip a b) none e = omega arith
   call-few (scrub a) none e = omega arith
   call-few (burstRead a n) none e = omega arith

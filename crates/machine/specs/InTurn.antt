@@ -1,10 +1,10 @@
 -- MEM-16: single calls one after the other, which a call of several accesses is compared with.
-use Prim.Native.Nat.{ℕ}
+use Prim.Native.Nat.{ℕ, _^_, _<_}
 use mathlib.Core.Path.{_≡_}
 use mathlib.Core.List.{List, [], _∷_, _++_}
 use mathlib.Core.Option.{none}
 use Rattle.refusals.specs.Paper.{refused, given}
-use Rattle.calls.specs.Calls.{MemoryCall, read, write, flip, scrub, Access, readIn, writeIn, flipIn, scrubIn, parts, Given}
+use Rattle.calls.specs.Calls.{MemoryCall, read, write, flip, scrub, burstRead, burstWrite, Access, readIn, writeIn, flipIn, scrubIn, parts, Given}
 use Rattle.calls.specs.State.{State}
 use Rattle.machine.specs.Calls.{refusal, memoryCall}
 
@@ -34,6 +34,17 @@ inTurn cols st (c ∷ cs) =
     let rs = inTurn cols (r .1) cs in
     (together (r .0) (rs .0), rs .1)
 
--- MEM-16: an accepted call gives and leaves what its accesses give and leave as single calls, one after the other
+-- MEM-1: the address that a call is given
+abbrev pub addressGiven : MemoryCall → ℕ
+addressGiven (read a n) = a
+addressGiven (write a bs) = a
+addressGiven (flip a b) = a
+addressGiven (scrub a) = a
+addressGiven (burstRead a n) = a
+addressGiven (burstWrite a bs) = a
+
+-- MEM-16: an accepted call gives and leaves what its accesses give and leave as single calls, one after the other. MAP-1: an address has 32 bits; a
+-- burst beyond would have beats that get 7 as single calls
 unfoldable pub AcceptedInTurn : List ℕ → Type 0
-AcceptedInTurn cols = (st : State) (c : MemoryCall) → refusal st c ≡ none → memoryCall cols st c ≡ inTurn cols st (singles (parts c))
+AcceptedInTurn cols =
+    (st : State) (c : MemoryCall) → addressGiven c < 2 ^ 32 → refusal st c ≡ none → memoryCall cols st c ≡ inTurn cols st (singles (parts c))

@@ -9,16 +9,16 @@ use Rattle.refusals.proofs.ChainLaws.{else-none}
 use Rattle.registers.specs.declared.Registers.{Registers}
 use Rattle.banks.specs.Map.{cellOf}
 use Rattle.error_registers.specs.Errors.{reported}
-use Rattle.calls.specs.declared.Kind.{Kind}
 use Rattle.calls.specs.declared.Kind.the-variants.{NoBank}
 use Rattle.calls.specs.Answers.{Effect, effectOf}
-use Rattle.calls.specs.Calls.{MemoryCall, burstRead, burstWrite, Access, readIn, writeIn, addressOf, beatAddress, beatBytes, fourBeats, parts, Got, got}
+use Rattle.calls.specs.Calls.{MemoryCall, burstRead, burstWrite, Access, readIn, writeIn, addressOf, beatAddress, beatBytes, fourBeats, parts, Got}
 use Rattle.calls.specs.Spans.{byBurst, byArguments, bySpans, byCall, missed}
 use Rattle.calls.specs.State.{State, state}
-use Rattle.machine.specs.Calls.{setup, spansOf, unlentAt, unlent, refusal, onTarget, accessAt, access, accesses, performed, memoryCall, called}
-use Rattle.machine.proofs.SetupLaws.{setup-after}
+use Rattle.machine.specs.Calls.{setup, spansOf, unlentAt, unlent, refusal, onTarget, accessAt, accesses, performed, called}
 use Rattle.memory.specs.CodeJudged.{judgedAt}
 use Rattle.cache_line.specs.CodeLine.{lastDoubleword}
+use Rattle.memory.proofs.CallLaws.{called-accepted}
+use Rattle.memory.proofs.AccessLaws.{Does, same-setup, one-more, no-more}
 use Rattle.memory.proofs.LineLaws.{inLine, beat-cells, end-is-last, line-unlent}
 
 -- ---- refusals
@@ -57,29 +57,6 @@ module _ (st : State) (a : ℕ) where
 
 -- ---- four accesses
 
--- an access that is performed and then reported
-pub access-done : (cols : List ℕ) (o : Option ℕ) (st : State) (x : Access) {k : Kind} {new cells : List ℕ} {r : Registers}
-    → _≡_ {A = Got × List ℕ} (got k new, cells) (onTarget cols o (st .cells) x) → r ≡ reported k (addressOf x) (st .registers)
-    → _≡_ {A = Got × State} (got k new, state r cells) (accessAt cols o st x)
-unfolding accessAt
-access-done cols o st x does reports = rw (← does, reports)
-
--- what an access at the cell o gives and leaves
-abbrev Does : List ℕ → State → Access → Option ℕ → Got → State → Type 0
-Does cols st x o g next = _≡_ {A = Got × State} (g, next) (accessAt cols o st x)
-
-module _ (cols : List ℕ) (st next : State) (x : Access) (o : Option ℕ) (g : Got) (does : Does cols st x o g next) where
-  same-setup : setup next ≡ setup st
-  same-setup = ap (λ (p : Got × State). setup (p .1)) does ∙ setup-after cols o st x
-
-  one-more : cellOf (setup st) (addressOf x) ≡ o → (xs : List Access) → accesses cols st (x ∷ xs) ≡ (g ∷ accesses cols next xs .0, accesses cols next xs .1)
-  unfolding accesses access
-  one-more found xs = rw (found, ← does)
-
-no-more : (cols : List ℕ) (st : State) → accesses cols st [] ≡ ([], st)
-unfolding accesses
-no-more cols st = refl
-
 module _ (cols : List ℕ) (beat : ℕ → Access) (cell : ℕ → Option ℕ) (s₀ s₁ s₂ s₃ s₄ : State)
     (found : (i : ℕ) → cellOf (setup s₀) (addressOf (beat i)) ≡ cell i) {g₀ g₁ g₂ g₃ : Got} where
   pub four-done : Does cols s₀ (beat 0) (cell 0) g₀ s₁ → Does cols s₁ (beat 1) (cell 1) g₁ s₂ → Does cols s₂ (beat 2) (cell 2) g₂ s₃ → Does cols s₃ (beat 3) (cell 3) g₃ s₄
@@ -107,13 +84,8 @@ module _ (cols : List ℕ) (st : State) (a : ℕ) where
 
   pub burst-read-done : (n : ℕ) (buffer : List ℕ) → refusal st (burstRead a n) ≡ none
       → called cols st (burstRead a n) buffer ≡ effectOf (performed cols none st (parts (burstRead a 32))) []
-  unfolding called memoryCall performed parts
-  burst-read-done n buffer free = rw free
-
-  pub burst-write-done : (bs : List ℕ) → refusal st (burstWrite a bs) ≡ none
-      → called cols st (burstWrite a bs) [] ≡ effectOf (performed cols none st (parts (burstWrite a bs))) []
-  unfolding called memoryCall
-  burst-write-done bs free = rw free
+  unfolding parts
+  burst-read-done n buffer free = called-accepted cols st (burstRead a n) buffer free
 
   -- without a bank
   module _ (out : cellOf (setup st) (lastDoubleword a) ≡ none) where

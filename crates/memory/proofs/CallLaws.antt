@@ -1,4 +1,4 @@
--- What a call of one access comes to, by its refusal and by what the access gives.
+-- What a call comes to, by its refusal and by what its access gives.
 use Prim.Native.Nat.{ℕ}
 use mathlib.Core.Path.{_≡_, refl, sym, _∙_}
 use mathlib.Core.Bool.{not}
@@ -17,9 +17,11 @@ use Rattle.calls.specs.declared.Kind.{Kind}
 use Rattle.calls.specs.Calls.{MemoryCall, read, write, flip, scrub, Access, readIn, writeIn, scrubIn, addressOf, parts, got}
 use Rattle.calls.specs.Spans.{byCount, byBit, byArguments, bySpans, byCall}
 use Rattle.calls.specs.State.{State, state}
-use Rattle.calls.specs.Answers.{Effect}
+use Rattle.calls.proofs.PartLaws.{Fits}
+use Rattle.calls.specs.Answers.{Effect, effectOf}
 use Rattle.error_registers.specs.Errors.{reported}
 use Rattle.machine.specs.Calls.{setup, spansOf, unlentAt, unlent, refusal, onTarget, accessAt, access, accesses, performed, memoryCall, called}
+use Rattle.machine.proofs.InTurnLaws.{single-parts}
 use Rattle.memory.specs.CodeJudged.{judgedAt}
 
 -- a refused call leaves everything as it was
@@ -29,6 +31,12 @@ unchanged st buffer n = record { answer = refused n; state = st; buffer = buffer
 pub called-refused : (cols : List ℕ) (st : State) (c : MemoryCall) (buffer n : List ℕ) → refusal st c ≡ some n → called cols st c buffer ≡ unchanged st buffer n
 unfolding called memoryCall performed
 called-refused cols st c buffer n h = rw h
+
+-- an accepted one gives and leaves what its accesses do; the buffer that it was lent does not matter
+pub called-accepted : (cols : List ℕ) (st : State) (c : MemoryCall) (buffer : List ℕ) → refusal st c ≡ none
+    → called cols st c buffer ≡ effectOf (performed cols none st (parts c)) []
+unfolding called memoryCall performed
+called-accepted cols st c buffer free = rw free
 
 module _ (st : State) (c : MemoryCall) (x : Access) (one : parts c ≡ x ∷ []) where
   -- all that refuses it, if no span does
@@ -66,17 +74,17 @@ flip-refusal st a b = rw (spans-hold (setup st) a) (go (notReady (setup st)) (by
 
 -- ---- the calls of one access
 module _ (st : State) (a : ℕ) where
-  pub read-refusal : (n : ℕ) → refusal st (read a n) ≡ judgedAt st a (byCount a n)
-  unfolding parts bySpans byArguments
-  read-refusal n = refusal-at st (read a n) (readIn a n) refl refl
+  pub read-refusal : (n : ℕ) → Fits (readIn a n) → refusal st (read a n) ≡ judgedAt st a (byCount a n)
+  unfolding bySpans byArguments
+  read-refusal n h = refusal-at st (read a n) (readIn a n) (single-parts (readIn a n) h) refl
 
-  pub write-refusal : (bs : List ℕ) → refusal st (write a bs) ≡ judgedAt st a (byCount a (length bs))
-  unfolding parts bySpans byArguments
-  write-refusal bs = refusal-at st (write a bs) (writeIn a bs) refl refl
+  pub write-refusal : (bs : List ℕ) → Fits (writeIn a bs) → refusal st (write a bs) ≡ judgedAt st a (byCount a (length bs))
+  unfolding bySpans byArguments
+  write-refusal bs h = refusal-at st (write a bs) (writeIn a bs) (single-parts (writeIn a bs) h) refl
 
   pub scrub-refusal : refusal st (scrub a) ≡ judgedAt st a none
-  unfolding parts bySpans byArguments
-  scrub-refusal = refusal-at st (scrub a) (scrubIn a) refl refl
+  unfolding bySpans byArguments
+  scrub-refusal = refusal-at st (scrub a) (scrubIn a) (single-parts (scrubIn a) tt) refl
 
 -- a judged call is not refused before its cell is looked at
 pub judged-arguments : (st : State) (a : ℕ) (d : Declined) → judgedAt st a d ≡ none → d ≡ none

@@ -1,7 +1,10 @@
 pub mod CallLaws
+pub mod AccessLaws
 pub mod JudgeLaws
 pub mod TargetLaws
 pub mod LineLaws
 pub mod BurstLaws
+pub mod SplitLaws
+pub mod FetchLaws
 pub mod WholeLaws
 pub mod PartLaws

@@ -1,6 +1,6 @@
--- Accesses to all eight bytes of a doubleword: a read, of a clean cell and of any other, and a write.
+-- Accesses to all eight bytes of a doubleword.
 use Prim.Native.Nat.{ℕ, _+_, _-_, _/_, _%_, _≤_}
-use mathlib.Core.Path.{_≡_, refl, sym, _∙_}
+use mathlib.Core.Path.{_≡_, sym, _∙_}
 use mathlib.Core.Bool.{true, _&&_}
 use mathlib.Core.Option.{some}
 use mathlib.Core.List.{List, []}
@@ -13,37 +13,29 @@ use Rattle.basics.proofs.Bools.{and-left, and-right}
 use Rattle.basics.proofs.RangeLaws.{byCases}
 use Rattle.registers.specs.declared.Registers.{Registers}
 use Rattle.eight_bytes.specs.CodeNumber.{bytesIn, eightAt}
+use Rattle.ecc.specs.Columns.{columns}
 use Rattle.ecc.specs.CheckCode.{syndromeOf}
-use Rattle.ecc.specs.declared.Reading.{Reading}
-use Rattle.ecc.specs.declared.Reading.the-variants as reading
-use Rattle.ecc.specs.Cell.{encode, loadOf}
+use Rattle.ecc.specs.Cell.{encode}
 use Rattle.ecc.specs.Doubleword.{bytesOfNumber}
 use Rattle.ecc.specs.Lending.{cellAt, putCell}
 use Rattle.ecc.proofs.DoublewordLaws.{number-length}
-use Rattle.ecc.proofs.Laws.{load-zero}
-use Rattle.error_registers.specs.Errors.{reported}
 use Rattle.calls.specs.declared.Kind.the-variants.{Clean, Stored}
 use Rattle.calls.specs.Calls.{readIn, writeIn, Got, got}
 use Rattle.calls.specs.State.{State, state}
-use Rattle.machine.specs.Cells.{answerOf, readCell, writeCell, onCell}
+use Rattle.machine.specs.Cells.{writeCell, onCell}
 use Rattle.machine.specs.Calls.{onTarget, accessAt}
 use Rattle.cache_line.specs.CodeLine.{cellInLine}
-use Rattle.memory.proofs.BurstLaws.{access-done}
+use Rattle.memory.proofs.FetchLaws.{clean-read}
 
-module _ (cols : List ℕ) (cells : List ℕ) (k a d : ℕ) where
-  -- by what the cell reads as
-  pub whole-read : (rd : Reading) → record { reading = rd; bytes = bytesOfNumber d } ≡ loadOf cols (cellAt cells k) → a % 8 ≡ 0
-      → _≡_ {A = Got × List ℕ} (got (answerOf rd) (bytesOfNumber d), cells) (onTarget cols (some k) cells (readIn a 8))
-  unfolding onTarget onCell readCell
-  whole-read rd e h = rw (← e, h, take-all 8 (bytesOfNumber d) (omega (arith, number-length d)))
+pub all-taken : (d a : ℕ) → a % 8 ≡ 0 → take 8 (drop (a % 8) (bytesOfNumber d)) ≡ bytesOfNumber d
+all-taken d a h = rw (h, take-all 8 (bytesOfNumber d) (omega (arith, number-length d)))
 
-  pub clean-read : (r : Registers) → bytesOfNumber d ≡ take 8 (cellAt cells k) → syndromeOf cols (cellAt cells k) ≡ 0 → a % 8 ≡ 0
-      → _≡_ {A = Got × State} (got Clean (bytesOfNumber d), state r cells) (accessAt cols (some k) (state r cells) (readIn a 8))
-  unfolding reported
-  clean-read r e z h =
-      access-done cols (some k) (state r cells) (readIn a 8) (whole-read reading.Clean (sym (load-zero cols (cellAt cells k) (bytesOfNumber d) 0 (sym z) refl e)) h) refl
+module _ (cells : List ℕ) (k a d : ℕ) where
+  pub whole-clean : (r : Registers) → bytesOfNumber d ≡ take 8 (cellAt cells k) → syndromeOf columns (cellAt cells k) ≡ 0 → a % 8 ≡ 0
+      → _≡_ {A = Got × State} (got Clean (bytesOfNumber d), state r cells) (accessAt columns (some k) (state r cells) (readIn a 8))
+  whole-clean r e z h = rw (all-taken d a h) at (clean-read cells k d r e z a 8 (omega arith))
 
-  pub whole-write : _≡_ {A = Got × List ℕ} (got Stored [], putCell cells k (encode cols (bytesOfNumber d))) (onTarget cols (some k) cells (writeIn a (bytesOfNumber d)))
+  pub whole-write : _≡_ {A = Got × List ℕ} (got Stored [], putCell cells k (encode columns (bytesOfNumber d))) (onTarget columns (some k) cells (writeIn a (bytesOfNumber d)))
   unfolding onTarget onCell writeCell
   whole-write = rw (eq-eqb _ 8 (number-length d))
 

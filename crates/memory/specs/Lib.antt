@@ -1,1 +1,2 @@
 pub mod CodeJudged
+pub mod CodeFetched

@@ -26,6 +26,8 @@ use crate::beats::answer;
 use crate::beats::miss_beats;
 use crate::bytes::ONES;
 use crate::bytes::copy_line;
+use crate::fetch::Fetched;
+use crate::fetch::fetch;
 use crate::in_place::refuse;
 use crate::judge::Judged;
 use crate::judge::judge;
@@ -39,28 +41,15 @@ use calls::Answer;
 use calls::Kind;
 use registers::Registers;
 
-// What a beat answers, and its doubleword.
-pub struct Beat {
-    pub kind: Kind,
-    pub doubleword: u64,
-}
-
 // Beat i of a burst read at `address`; `last` is the last cell of the line.
-fn read_beat(registers: &mut [u8; 256], cells: &[u8], last: usize, address: u32, i: u32) -> Beat
+fn read_beat(registers: &mut [u8; 256], cells: &[u8], last: usize, address: u32, i: u32) -> Fetched
     requires { ⌜ (isLent (now cells) last ≡ true) × (last % 4 ≡ 3) × (address % 8 ≡ 0) ⌝ }
     ensures { λ x. ⌜ (got (x .kind) (bytesOfNumber (x .doubleword)), state (recordOf (now (registers .exit))) (now (cells .entry))) ≡ accessAt columns (some (cellInLine (beatAddress address i) last)) (state (recordOf (now (registers .entry))) (now (cells .entry))) (readIn (beatAddress address i) 8) ⌝ }
 {
     let a = beat_address(address, i);
     let k = cell_in_line(last, a);
     let s = access::syndrome_at(LENT, &NO_COLUMNS, cells, k);
-    let loaded = access::load(LENT, &NO_COLUMNS, cells, k, s);
-    let reading = loaded.reading;
-    let kind = access::kind_of(reading);
-    error_registers::report(registers, kind, a);
-    Beat {
-        kind: kind,
-        doubleword: loaded.doubleword,
-    }
+    fetch(registers, cells, k, s, a)
 }
 
 // The cells of the line whose last cell this is are all clean. There are no branches, so that four syndromes are computed at once.

@@ -1,9 +1,11 @@
 // Copies bytes between a doubleword, a number with byte 0 lowest, and the slice that a caller lends.
 ghost use mathlib.Core.Path.{_≡_};
+ghost use mathlib.Core.Bool.{true};
 ghost use mathlib.Core.List.{[], _++_};
-ghost use Prim.Native.Nat.{_+_, _≤_, _<_};
+ghost use Prim.Native.Nat.{_+_, _-_, _%_, _≤_, _<_};
 ghost use lib.ListN.{length, getD, set, take, drop};
 ghost use Rattle.ecc.specs.Doubleword.{bytesOfNumber};
+ghost use Rattle.calls.specs.Calls.{crosses, room};
 ghost use Rattle.machine.specs.Cells.{merge};
 
 // MEM-9: what a read without a bank gives.
@@ -66,6 +68,15 @@ pub(crate) fn copy_out(doubleword: u64, offset: usize, buffer: &mut [u8])
         buffer[i] = byte(doubleword, offset + i);
         i += 1;
     }
+}
+
+// MEM-18: fills the buffer of a split read with the bytes from the address to the end of its doubleword, and with those at the start of the next.
+pub(crate) fn copy_across(first: u64, second: u64, address: u32, buffer: &mut [u8])
+    requires { ⌜ (crosses address (length (now buffer)) ≡ true) × (length (now buffer) ≤ 8) ⌝ }
+    ensures { λ _. ⌜ now (buffer .exit) ≡ take (room address) (drop (address % 8) (bytesOfNumber first)) ++ (take (length (now (buffer .entry)) - room address) (bytesOfNumber second) ++ []) ⌝ }
+{
+    let eight = eight_bytes::number_across(first, second, address);
+    copy_out(eight, 0, buffer);
 }
 
 fn wide(x: u8) -> u64

@@ -1,4 +1,5 @@
-// The calls of one access. Each is judged before its access is performed; the answer of the access is then reported to the error registers.
+// Read, write, flip and scrub. Each is judged before anything is changed. What stays inside one doubleword is performed here, and its answer is then
+// reported to the error registers; a split is handed on.
 ghost use mathlib.Core.Path.{_≡_};
 ghost use mathlib.Core.List.{[], _∷_};
 ghost use Rattle.refusals.specs.Paper.{paper, refused, given};
@@ -16,14 +17,17 @@ use crate::bytes::copy_out;
 use crate::judge::Judged;
 use crate::judge::judge;
 use crate::judge::judge_bit;
-use crate::judge::judge_count;
+use crate::judge::judge_inside;
 use crate::judge::locate;
+use crate::split_read::read_split;
+use crate::split_write::write_split;
 use calls::Answer;
 use calls::Kind;
 use calls::Part;
 use refusals::Refusal;
 use refusals::Verdict;
 use registers::Registers;
+use split::crosses_end;
 
 pub(crate) fn refuse(x: Refusal) -> Answer
     ensures { λ a. ⌜ paperAnswer a ≡ refused (paper x) ⌝ }
@@ -65,7 +69,10 @@ pub fn read_in_place(
     ensures { λ x. ⌜ leaves x (state (recordOf (now (registers .exit))) (now (cells .entry))) (now (buffer .exit)) ≡ readCall columns (state (recordOf (now (registers .entry))) (now (cells .entry))) address (now (buffer .entry)) ⌝ }
 {
     let x = locate(Registers { bytes: *registers }, cells.len(), address);
-    let judged = judge(x, judge_count(address, buffer.len()));
+    if crosses_end(address, buffer.len()) {
+        return read_split(registers, cells, x, address, buffer);
+    }
+    let judged = judge(x, judge_inside(buffer.len()));
     match judged {
         Judged::Refused(x) => refuse(x),
         Judged::NoBank => {
@@ -88,7 +95,10 @@ pub fn write_in_place(
     ensures { λ x. ⌜ leaves x (state (recordOf (now (registers .exit))) (now (cells .exit))) [] ≡ writeCall columns (state (recordOf (now (registers .entry))) (now (cells .entry))) address (now (bytes .entry)) ⌝ }
 {
     let x = locate(Registers { bytes: *registers }, cells.len(), address);
-    let judged = judge(x, judge_count(address, bytes.len()));
+    if crosses_end(address, bytes.len()) {
+        return write_split(registers, cells, x, address, bytes);
+    }
+    let judged = judge(x, judge_inside(bytes.len()));
     match judged {
         Judged::Refused(x) => refuse(x),
         Judged::NoBank => report(registers, Kind::NoBank, address),

@@ -1,9 +1,12 @@
-// Whether a call is refused, and which cell its access goes to; of a burst, the last cell of its line. Both are found before anything is changed.
+// Whether a call is refused, and which cell its access goes to; of a split, the cell of its first access, and of a burst, the last one of its line. Both are found before anything is changed.
 ghost use mathlib.Core.Path.{_≡_};
+ghost use mathlib.Core.Bool.{false};
+ghost use Prim.Native.Nat.{ℕ, _^_, _<_};
 ghost use Rattle.refusals.specs.Paper.{paperVerdict, _gives_};
 ghost use Rattle.banks.specs.Setup.{setupOf};
 ghost use Rattle.banks.specs.Judge.{notReady};
 ghost use Rattle.banks.specs.Map.{cellOf};
+ghost use Rattle.calls.specs.Calls.{crosses};
 ghost use Rattle.calls.specs.Spans.{byCount, byBit};
 ghost use Rattle.memory.specs.CodeJudged.{placeOf, located, destinationBy, judgedBy};
 use banks::Target;
@@ -12,13 +15,13 @@ use refusals::Verdict;
 use registers::Registers;
 
 // What `locate` returns for an address without a lent cell, and for the first cell.
-const NOT_READY: usize = 0;
+pub(crate) const NOT_READY: usize = 0;
 
 const NO_BANK: usize = 1;
 
-const NOT_LENT: usize = 2;
+pub(crate) const NOT_LENT: usize = 2;
 
-const FIRST_CELL: usize = 3;
+pub(crate) const FIRST_CELL: usize = 3;
 
 // A call that is not refused selects no bank, or goes to a cell that is wholly lent.
 pub enum Judged {
@@ -27,14 +30,13 @@ pub enum Judged {
     Cell(usize),
 }
 
-pub(crate) fn judge_count(address: u32, count: usize) -> Verdict
-    ensures { λ v. ⌜ paperVerdict v ≡ byCount address count ⌝ }
+// REF-6, REF-7: what a read or write that stays inside one doubleword gets by its arguments. It has eight bytes at most and does not pass the last
+// address, so that only a count of 0 is refused.
+pub(crate) fn judge_inside(count: usize) -> Verdict
+    ensures { λ v. ⌜ ((a : ℕ) → a < 2 ^ 32 → crosses a count ≡ false → paperVerdict v ≡ byCount a count) ⌝ }
 {
-    if (count == 0) | (8 < count) {
+    if count == 0 {
         return Verdict::Refused(Refusal::CountOutOfRange);
-    }
-    if 8 - count < (address % 8) as usize {
-        return Verdict::Refused(Refusal::CrossesDoubleword);
     }
     Verdict::Accepted
 }

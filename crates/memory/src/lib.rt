@@ -5,9 +5,13 @@ mod beats;
 mod burst_read;
 mod burst_write;
 mod bytes;
+mod fetch;
 mod in_place;
 mod judge;
 mod lent;
+mod split_read;
+mod split_write;
+mod two_parts;
 
 pub use burst_read::burst_read_in_place;
 pub use burst_write::burst_write_in_place;

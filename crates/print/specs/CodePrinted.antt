@@ -8,7 +8,7 @@ use Rattle.calls.specs.declared.Answer.{Answer}
 use Rattle.calls.specs.Answers.{paperAnswer}
 use Rattle.print.specs.Output.{outcomeText, kindsText, kindsAndBytesText}
 
--- the most bytes that an output line has, with its LF: those of a read of eight bytes in four parts
+-- the most bytes that an output line can have, with its LF: an answer has up to four parts, and a read up to eight bytes
 abbrev pub longestOutputLine : ℕ
 longestOutputLine = 29
 

@@ -14,7 +14,7 @@ use calls::Answer;
 use refusals::Verdict;
 use register_calls::RegisterRead;
 
-// The length of the longest output line, with its LF: that of a read of eight bytes in four parts.
+// The most bytes that an output line can have, with its LF: an answer has up to four parts, and a read up to eight bytes.
 pub const LONGEST_OUTPUT_LINE: usize = 29;
 
 // The line, by its letter, of what prints nothing more if it was accepted: a register write and a flip, which print no answer (LINE-13), and a

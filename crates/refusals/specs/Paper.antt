@@ -5,7 +5,7 @@ use mathlib.Core.Option.{Option, none, some}
 use mathlib.Core.List.{List, [], _∷_}
 use Rattle.refusals.specs.declared.Refusal.{Refusal}
 use Rattle.refusals.specs.declared.Refusal.the-variants.{UnlistedOffset, ReadOnly, ValueOutOfRange, LockedWhileOn, NotReady, CountOutOfRange}
-use Rattle.refusals.specs.declared.Refusal.the-variants.{CrossesDoubleword, BitOutOfRange, NotLent, FlipWithoutBank, NoBankEnabled, StartAboveEnd}
+use Rattle.refusals.specs.declared.Refusal.the-variants.{PassesLastAddress, BitOutOfRange, NotLent, FlipWithoutBank, NoBankEnabled, StartAboveEnd}
 use Rattle.refusals.specs.declared.Refusal.the-variants.{TooLong, Overlap, BankOff, RowOrColumnTooLarge, NoAddress, MalformedLine, Misaligned, NotCacheLine}
 use Rattle.refusals.specs.declared.Verdict.{Verdict}
 use Rattle.refusals.specs.declared.Verdict.the-variants.{Accepted, Refused}
@@ -18,7 +18,7 @@ paper ValueOutOfRange = 3 ∷ []
 paper LockedWhileOn = 4 ∷ []
 paper NotReady = 5 ∷ []
 paper CountOutOfRange = 6 ∷ []
-paper CrossesDoubleword = 7 ∷ []
+paper PassesLastAddress = 7 ∷ []
 paper BitOutOfRange = 8 ∷ []
 paper NotLent = 9 ∷ []
 paper FlipWithoutBank = 10 ∷ []

@@ -13,7 +13,7 @@ pub const UNFILLED_BYTE: u8 = 0xA6;
 /// a call went: a refusal is what the call returned, and below this.
 pub const ACCEPTED: u32 = 0x1_0000;
 
-/// The ways of reads, writes and scrubs: the kinds of `mpc106.h`.
+/// The ways of reads, writes and scrubs of one part: the kinds of `mpc106.h`.
 pub const CLEAN: u32 = ACCEPTED + 1;
 pub const CORRECTED: u32 = ACCEPTED + 2;
 pub const UNCORRECTABLE: u32 = ACCEPTED + 3;
@@ -44,22 +44,24 @@ fn kind(answer: Answer) -> u32 {
     way - ACCEPTED
 }
 
-/// The numbers that an accepted read, write or scrub gives: one part.
-pub fn numbers_of_memory(answer: Answer) -> Numbers {
-    [1, kind(answer), 0, 0, 0]
+/// The numbers that an accepted read, write, scrub or burst gives: how many
+/// parts it has, and the kind of each.
+pub fn numbers_of_parts(parts: &[Answer]) -> Numbers {
+    let mut numbers = [0; 5];
+    let (count, kinds) = numbers.split_first_mut().expect("five numbers");
+    *count = parts.len() as u32;
+    for (number, &part) in kinds.iter_mut().zip(parts) {
+        *number = kind(part);
+    }
+    numbers
 }
 
-/// The numbers that an accepted burst gives: a part for each beat.
-pub fn numbers_of_burst(beats: [Answer; 4]) -> Numbers {
-    let [first, second, third, fourth] = beats.map(kind);
-    [4, first, second, third, fourth]
-}
-
-/// What names the way of an accepted burst: the kind of each beat is a
-/// hexadecimal digit, and that of the first beat comes first.
-pub fn digits_of_burst([_, beats @ ..]: Numbers) -> u32 {
-    beats
+/// What names the way of an accepted read, write, scrub or burst: the kind of
+/// each part is a hexadecimal digit, and that of the first part comes first.
+pub fn digits_of_parts([count, parts @ ..]: Numbers) -> u32 {
+    parts
         .iter()
+        .take(count as usize)
         .fold(0, |digits, kind| digits << 4 | kind & 0xF)
 }
 

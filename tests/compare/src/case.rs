@@ -54,6 +54,20 @@ impl Case {
         }
     }
 
+    /// The same, and the library must accept every call, or else refuse every
+    /// call with 9 (REF-9).
+    pub fn check_lent(&self, is_lent: bool, coverage: &mut Coverage<Met>) -> Result<(), String> {
+        self.check(coverage)?;
+        let mut state = State::new(self.record, &self.cells);
+        let expected = if is_lent { 0 } else { 9 };
+        let as_expected = |request| state.ask_library(request).result == expected;
+        if self.requests.iter().all(as_expected) {
+            Ok(())
+        } else {
+            Err(format!("{self}: the library does not return {expected}"))
+        }
+    }
+
     fn smallest(&self, index: usize) -> String {
         let mut case = self.clone();
         case.requests.truncate(index + 1);
@@ -138,6 +152,12 @@ impl fmt::Display for Case {
     }
 }
 
+/// MEM-17: a read or write that runs into the next doubleword, or past the last
+/// address. One whose count gets refusal 6 is none.
+pub fn is_split(address: u32, count: usize) -> bool {
+    (1..=8).contains(&count) && address as usize % 8 + count > 8
+}
+
 /// A register's value, a count of cells, an address and the bank of a refusal
 /// don't name a way of their own.
 pub fn met(request: &Request, way: u32) -> Met {
@@ -151,6 +171,12 @@ pub fn met(request: &Request, way: u32) -> Met {
         Request::WideFlip { .. } => "wide flip",
         Request::WideGet { .. } => "wide get",
         Request::WideSet { .. } => "wide set",
+        Request::Listed(Call::Read { address, count }) if is_split(*address, *count) => {
+            "split read"
+        }
+        Request::Listed(Call::Write { address, bytes }) if is_split(*address, bytes.len()) => {
+            "split write"
+        }
         Request::Listed(Call::Read { .. }) => "read",
         Request::Listed(Call::Write { .. }) => "write",
         Request::Listed(Call::Flip { .. }) => "flip",
@@ -166,6 +192,18 @@ pub fn met(request: &Request, way: u32) -> Met {
         accepted => accepted,
     };
     (kind, way)
+}
+
+/// Accepted calls of that many parts, each part of each of these kinds.
+pub fn mixtures(
+    kind: &'static str,
+    parts: u32,
+    kinds: &'static [u32],
+) -> impl Iterator<Item = Met> {
+    let of_part = |digits: u32, part: u32| digits >> (4 * part) & 0xF;
+    (0..1 << (4 * parts))
+        .filter(move |&digits| (0..parts).all(|part| kinds.contains(&of_part(digits, part))))
+        .map(move |digits| (kind, ACCEPTED + digits))
 }
 
 /// All outcomes of one kind of call that a test must cover.

@@ -1,7 +1,7 @@
-//! Random records, addresses and bursts, beyond those that the model's own
-//! generators draw.
+//! Random records, addresses, bursts and splits, beyond those that the model's
+//! own generators draw.
 
-use model::gen::{setups, Rng};
+use model::gen::{edges, setups, Rng};
 use model::map::{self, Column, Layout, Row};
 use model::record::{is_extended, offset, SWITCH_ON};
 use model::{Call, Record};
@@ -129,6 +129,18 @@ pub fn burst(rng: &mut Rng, address: u32) -> Call {
     }
     let bytes = rng.bytes(count);
     Call::BurstWrite { address, bytes }
+}
+
+/// A split (MEM-17) that starts in the doubleword of an address or in the one
+/// before it, of any count that runs into the next.
+pub fn split(rng: &mut Rng, address: u32) -> Call {
+    let doubleword = (address & !7).wrapping_sub(8 * rng.below(2));
+    let (address, count) = edges::split(rng, doubleword);
+    if rng.percent(60) {
+        return Call::Read { address, count };
+    }
+    let bytes = rng.bytes(count);
+    Call::Write { address, bytes }
 }
 
 /// Addresses of the doublewords with these cell numbers; a cell without an

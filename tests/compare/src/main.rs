@@ -10,6 +10,8 @@ mod busline;
 mod case;
 mod coverage;
 mod draw;
+mod in_turn;
+mod lent;
 mod library;
 mod limit;
 mod request;

@@ -3,7 +3,7 @@
 use std::fmt;
 
 use model::map::{self, Column, Row};
-use model::{memory, Call, Record, Refusal};
+use model::{memory, Answer, Answers, Call, Record, Refusal};
 
 use crate::answers::{self, Numbers, ACCEPTED, UNFILLED, UNFILLED_BYTE};
 use crate::library;
@@ -176,10 +176,7 @@ impl Request {
             Request::WideGet { .. } | Request::Listed(Call::ReadRegister { .. }) => {
                 u32::from(given.value)
             }
-            Request::Listed(Call::BurstRead { .. } | Call::BurstWrite { .. }) => {
-                answers::digits_of_burst(given.numbers)
-            }
-            Request::Listed(_) => given.numbers[1],
+            Request::Listed(_) => answers::digits_of_parts(given.numbers),
             _ => given.numbers[0],
         }
     }
@@ -305,19 +302,22 @@ impl Given {
 
     fn model_call(&mut self, record: &mut Record, cells: &mut [u8], call: &Call) {
         let (buffer, _) = self.lent();
-        let single = answers::numbers_of_memory;
-        let burst = answers::numbers_of_burst;
+        let of_parts = |parts: Answers| answers::numbers_of_parts(parts.kinds());
+        let of_beats = |beats: [Answer; 4]| answers::numbers_of_parts(&beats);
         let numbers = match call {
-            Call::Read { address, .. } => memory::read(record, cells, *address, buffer).map(single),
-            Call::Write { address, bytes } => {
-                memory::write(record, cells, *address, bytes).map(single)
+            Call::Read { address, .. } => {
+                memory::read(record, cells, *address, buffer).map(of_parts)
             }
-            Call::Scrub { address } => memory::scrub(record, cells, *address).map(single),
+            Call::Write { address, bytes } => {
+                memory::write(record, cells, *address, bytes).map(of_parts)
+            }
+            Call::Scrub { address } => memory::scrub(record, cells, *address)
+                .map(|answer| answers::numbers_of_parts(&[answer])),
             Call::BurstRead { address, .. } => {
-                memory::burst_read(record, cells, *address, buffer).map(burst)
+                memory::burst_read(record, cells, *address, buffer).map(of_beats)
             }
             Call::BurstWrite { address, bytes } => {
-                memory::burst_write(record, cells, *address, bytes).map(burst)
+                memory::burst_write(record, cells, *address, bytes).map(of_beats)
             }
             Call::Flip { address, bit } => {
                 return self.accept(memory::flip(record, cells, *address, *bit), |_, ()| ());

@@ -9,6 +9,7 @@ mod memory;
 mod registers;
 mod scripts;
 mod shrinking;
+mod splits;
 
 use model::gen::Rng;
 
@@ -28,6 +29,7 @@ pub const TESTS: &[Test] = &[
         examples::wide_numbers_and_cells()
     }),
     test("examples-memory", |_, _| examples::memory_and_errors()),
+    test("examples-splits", |_, _| examples::splits()),
     test("examples-bursts", |_, _| examples::bursts()),
     test("examples-lines", |_, busline| examples::lines(busline)),
     test("bank-ends", |_, busline| examples::bank_ends(busline)),
@@ -43,6 +45,14 @@ pub const TESTS: &[Test] = &[
     test("memory", |rng, _| memory::few_cells(rng)),
     test("memory-two-banks", |rng, _| memory::two_banks(rng)),
     test("every-flip", |rng, _| memory::every_flip(rng)),
+    test("splits", |rng, _| splits::from_any_state(rng)),
+    test("splits-every-place", |rng, _| splits::every_place(rng)),
+    test("splits-reports", |rng, _| splits::every_report(rng)),
+    test("splits-edges", |rng, _| splits::edges::of_banks(rng)),
+    test("splits-lent", |rng, _| splits::edges::of_what_is_lent(rng)),
+    test("splits-last-addresses", |rng, _| {
+        splits::edges::of_all_addresses(rng)
+    }),
     test("bursts", |rng, _| bursts::from_any_state(rng)),
     test("bursts-edges", |rng, _| bursts::edges(rng)),
     test("bursts-lent", |rng, _| bursts::partly_lent(rng)),

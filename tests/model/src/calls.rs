@@ -1,6 +1,7 @@
 //! Lists of calls, and their run on a record and lent cells.
 
-use crate::memory::{self, Answer};
+use crate::answers::{Answer, Answers};
+use crate::memory;
 use crate::record::Record;
 use crate::refusal::Refusal;
 
@@ -45,10 +46,10 @@ pub enum Call {
 #[derive(Clone, Debug, PartialEq, Eq)]
 pub enum Outcome {
     Refused(Refusal),
-    /// Of an accepted write or scrub.
-    Answered(Answer),
-    /// Of an accepted read: the answer and the bytes put in its buffer.
-    Read(Answer, Vec<u8>),
+    /// Of an accepted write or scrub; only a write can have two answers.
+    Answered(Answers),
+    /// Of an accepted read: the answers and the bytes put in its buffer.
+    Read(Answers, Vec<u8>),
     /// LIST-9: of a flip only that it was accepted.
     Flipped,
     /// Of an accepted burst read: the answers and bytes in the order of beats.
@@ -69,7 +70,7 @@ pub fn step(record: &mut Record, cells: &mut [u8], call: &Call) -> Option<Outcom
         Call::Read { address, count } => {
             let mut buffer = vec![0; *count];
             memory::read(record, cells, *address, &mut buffer)
-                .map(|answer| Outcome::Read(answer, buffer))
+                .map(|answers| Outcome::Read(answers, buffer))
         }
         Call::Write { address, bytes } => {
             memory::write(record, cells, *address, bytes).map(Outcome::Answered)
@@ -77,7 +78,8 @@ pub fn step(record: &mut Record, cells: &mut [u8], call: &Call) -> Option<Outcom
         Call::Flip { address, bit } => {
             memory::flip(record, cells, *address, *bit).map(|()| Outcome::Flipped)
         }
-        Call::Scrub { address } => memory::scrub(record, cells, *address).map(Outcome::Answered),
+        Call::Scrub { address } => memory::scrub(record, cells, *address)
+            .map(|answer| Outcome::Answered(Answers::Single(answer))),
         Call::BurstRead { address, count } => {
             let mut buffer = vec![0; *count];
             memory::burst_read(record, cells, *address, &mut buffer)

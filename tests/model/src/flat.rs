@@ -1,10 +1,11 @@
 //! The flat machine (FLAT-1), which has no cells and no check bytes.
 
 use std::collections::{HashMap, HashSet};
+use std::ops::Range;
 
+use crate::answers::{Answer, Answers};
 use crate::calls::{Call, Outcome};
 use crate::map;
-use crate::memory::Answer;
 use crate::record::Record;
 use crate::refusal::Refusal;
 
@@ -61,7 +62,7 @@ impl FlatMachine {
         let outcome = match call {
             Call::Read { address, count } => self
                 .read(*address, *count)
-                .map(|(answer, bytes)| Outcome::Read(answer, bytes)),
+                .map(|(answers, bytes)| Outcome::Read(answers, bytes)),
             Call::Write { address, bytes } => self.write(*address, bytes).map(Outcome::Answered),
             Call::Flip { address, bit } => self.flip(*address, *bit),
             Call::Scrub { address } => Ok(self.scrub(*address)),
@@ -72,34 +73,49 @@ impl FlatMachine {
         Some(outcome.unwrap_or_else(Outcome::Refused))
     }
 
-    /// FLAT-3
-    fn read(&self, address: u32, count: usize) -> Result<(Answer, Vec<u8>), Refusal> {
+    /// FLAT-3, FLAT-9
+    fn read(&self, address: u32, count: usize) -> Result<(Answers, Vec<u8>), Refusal> {
         check_access(address, count)?;
-        if !self.selects_bank(address) {
-            return Ok((Answer::NoBank, vec![0xFF; count]));
-        }
-        let bytes = (address..=address + (count as u32 - 1))
-            .map(|at| self.bytes.get(&at).copied().unwrap_or(0))
-            .collect();
-        let marked = self.marks.contains(&doubleword(address));
-        Ok((answer_by_mark(marked), bytes))
+        let mut bytes = Vec::with_capacity(count);
+        let answers = by_accesses(address, count, |part| {
+            self.read_access(address + part.start as u32, part.len(), &mut bytes)
+        });
+        Ok((answers, bytes))
     }
 
-    /// FLAT-2
-    fn write(&mut self, address: u32, bytes: &[u8]) -> Result<Answer, Refusal> {
-        check_access(address, bytes.len())?;
+    /// FLAT-3: a read inside a doubleword. Its bytes are appended.
+    fn read_access(&self, address: u32, count: usize, bytes: &mut Vec<u8>) -> Answer {
         if !self.selects_bank(address) {
-            return Ok(Answer::NoBank);
+            bytes.resize(bytes.len() + count, 0xFF);
+            return Answer::NoBank;
+        }
+        let addresses = address..=address + (count as u32 - 1);
+        bytes.extend(addresses.map(|at| self.bytes.get(&at).copied().unwrap_or(0)));
+        answer_by_mark(self.marks.contains(&doubleword(address)))
+    }
+
+    /// FLAT-2, FLAT-9
+    fn write(&mut self, address: u32, bytes: &[u8]) -> Result<Answers, Refusal> {
+        check_access(address, bytes.len())?;
+        Ok(by_accesses(address, bytes.len(), |part| {
+            self.write_access(address + part.start as u32, &bytes[part])
+        }))
+    }
+
+    /// FLAT-2: a write inside a doubleword.
+    fn write_access(&mut self, address: u32, bytes: &[u8]) -> Answer {
+        if !self.selects_bank(address) {
+            return Answer::NoBank;
         }
         for (distance, &byte) in (0..).zip(bytes) {
             self.bytes.insert(address + distance, byte);
         }
         let marked = self.marks.remove(&doubleword(address));
-        Ok(if bytes.len() == 8 {
+        if bytes.len() == 8 {
             Answer::Stored
         } else {
             answer_by_mark(marked)
-        })
+        }
     }
 
     /// FLAT-5
@@ -116,11 +132,11 @@ impl FlatMachine {
 
     /// FLAT-4
     fn scrub(&mut self, address: u32) -> Outcome {
-        Outcome::Answered(if self.selects_bank(address) {
+        Outcome::Answered(Answers::Single(if self.selects_bank(address) {
             answer_by_mark(self.marks.remove(&doubleword(address)))
         } else {
             Answer::NoBank
-        })
+        }))
     }
 
     /// FLAT-9: four reads of eight bytes.
@@ -129,9 +145,7 @@ impl FlatMachine {
         let mut answers = [Answer::NoBank; 4];
         let mut bytes = Vec::with_capacity(32);
         for (answer, beat) in answers.iter_mut().zip(beats(address)) {
-            let (kind, data) = self.read(beat, 8)?;
-            *answer = kind;
-            bytes.extend(data);
+            *answer = self.read_access(beat, 8, &mut bytes);
         }
         Ok(Outcome::BurstRead(answers, bytes))
     }
@@ -142,7 +156,7 @@ impl FlatMachine {
         let mut answers = [Answer::NoBank; 4];
         let parts = beats(address).zip(bytes.chunks(8));
         for (answer, (beat, data)) in answers.iter_mut().zip(parts) {
-            *answer = self.write(beat, data)?;
+            *answer = self.write_access(beat, data);
         }
         Ok(Outcome::BurstWritten(answers))
     }
@@ -154,6 +168,21 @@ fn beats(address: u32) -> impl Iterator<Item = u32> {
     let line = address & !0x1F;
     let behind = (address..=line + 24).step_by(8);
     behind.chain((line..address).step_by(8))
+}
+
+/// MEM-17: makes the accesses of an accepted read or write, the lower address
+/// first. Each is told which of the bytes are its own. The bytes are looked
+/// through for one that begins a doubleword, see [`check_access`].
+fn by_accesses(
+    address: u32,
+    count: usize,
+    mut access: impl FnMut(Range<usize>) -> Answer,
+) -> Answers {
+    let begins_doubleword = |&distance: &usize| (address + distance as u32) & 7 == 0;
+    match (1..count).find(begins_doubleword) {
+        None => Answers::Single(access(0..count)),
+        Some(edge) => Answers::Split([access(0..edge), access(edge..count)]),
+    }
 }
 
 /// The number of the doubleword that contains an address.
@@ -175,9 +204,8 @@ fn check_access(address: u32, count: usize) -> Result<(), Refusal> {
     if !(1..=8).contains(&count) {
         return Err(Refusal::BadCount);
     }
-    let last = u64::from(address) + count as u64 - 1;
-    if u64::from(address) / 8 != last / 8 {
-        return Err(Refusal::LeavesDoubleword);
+    if u64::from(address) + count as u64 > 1 << 32 {
+        return Err(Refusal::PassesLastAddress);
     }
     Ok(())
 }

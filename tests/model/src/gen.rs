@@ -1,5 +1,7 @@
-//! Seeded random set-ups, records, line scripts and lists of calls.
+//! Seeded random set-ups, records, places for splits, line scripts and lists of
+//! calls.
 
+pub mod edges;
 pub mod lists;
 pub mod scripts;
 pub mod setups;

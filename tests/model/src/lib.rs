@@ -1,11 +1,12 @@
 //! The memory side of the MPC106: registers, banks, map, check code, memory
-//! calls and line bursts with their error registers, the flat machine and the
-//! line program.
+//! calls with splits and line bursts and their error registers, the flat machine
+//! and the line program.
 //!
 //! This is a second implementation, written from the specification alone,
 //! without looking at the first. Comments cite the rules of
 //! docs/SPECIFICATION.md.
 
+pub mod answers;
 pub mod bursts;
 pub mod calls;
 pub mod code;
@@ -16,8 +17,9 @@ pub mod map;
 pub mod memory;
 pub mod record;
 pub mod refusal;
+mod splits;
 
+pub use answers::{Answer, Answers};
 pub use calls::{Call, Outcome};
-pub use memory::Answer;
 pub use record::Record;
 pub use refusal::Refusal;

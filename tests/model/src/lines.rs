@@ -1,11 +1,15 @@
 //! The line program `busline`.
 
+mod parse;
+
 use std::io::{self, ErrorKind, Read, Write};
 
+use crate::answers::Answer;
 use crate::code::CELL_BYTES;
-use crate::memory::{self, Answer};
+use crate::memory;
 use crate::record::Record;
 use crate::refusal::Refusal;
+use parse::Line;
 
 /// LINE-9
 pub const LENT_CELLS: usize = 7280;
@@ -24,24 +28,6 @@ const HEX: &[u8; 16] = b"0123456789abcdef";
 pub struct LineProgram {
     record: Record,
     cells: Vec<u8>,
-}
-
-/// A well-formed line.
-#[derive(Clone, Copy, Debug, PartialEq, Eq)]
-enum Line {
-    Configure { offset: u8, value: u8 },
-    Get { offset: u8 },
-    Write { address: u32, bytes: Bytes },
-    Read { address: u32, count: u8 },
-    Flip { address: u32, bit: u8 },
-    Scrub { address: u32 },
-}
-
-/// One to eight bytes of a w line.
-#[derive(Clone, Copy, Debug, PartialEq, Eq)]
-struct Bytes {
-    bytes: [u8; 8],
-    count: usize,
 }
 
 impl Default for LineProgram {
@@ -70,7 +56,7 @@ impl LineProgram {
 
     /// Takes one line without its LF and appends the output line.
     pub fn take_line(&mut self, line: &[u8], out: &mut Vec<u8>) {
-        match parse(line) {
+        match parse::parse(line) {
             Some(parsed) => {
                 out.push(line[0]);
                 if let Err(refusal) = self.execute(parsed, out) {
@@ -102,14 +88,14 @@ impl LineProgram {
                 put_hex(out, &[value]);
             }
             Line::Write { address, bytes } => {
-                let answer = memory::write(record, cells, address, bytes.as_slice())?;
-                put_answer(out, answer);
+                let answers = memory::write(record, cells, address, bytes.as_slice())?;
+                put_answers(out, answers.kinds());
             }
             Line::Read { address, count } => {
                 let mut buffer = [0; LARGEST_COUNT];
                 let buffer = &mut buffer[..usize::from(count)];
-                let answer = memory::read(record, cells, address, buffer)?;
-                put_answer(out, answer);
+                let answers = memory::read(record, cells, address, buffer)?;
+                put_answers(out, answers.kinds());
                 out.push(b',');
                 put_hex(out, buffer);
             }
@@ -119,16 +105,10 @@ impl LineProgram {
             }
             Line::Scrub { address } => {
                 let answer = memory::scrub(record, cells, address)?;
-                put_answer(out, answer);
+                put_answers(out, &[answer]);
             }
         }
         Ok(())
-    }
-}
-
-impl Bytes {
-    fn as_slice(&self) -> &[u8] {
-        &self.bytes[..self.count]
     }
 }
 
@@ -193,92 +173,6 @@ impl LineSplitter {
     }
 }
 
-/// LINE-2: the fields of a line, or nothing if it is malformed.
-fn parse(line: &[u8]) -> Option<Line> {
-    if line.len() > LONGEST_LINE {
-        return None;
-    }
-    let mut fields = line.split(|&byte| byte == b',');
-    let letter = fields.next()?;
-    let parsed = match letter {
-        b"c" => Line::Configure {
-            offset: hex_byte(fields.next()?)?,
-            value: hex_byte(fields.next()?)?,
-        },
-        b"g" => Line::Get {
-            offset: hex_byte(fields.next()?)?,
-        },
-        b"w" => Line::Write {
-            address: hex_address(fields.next()?)?,
-            bytes: hex_bytes(fields.next()?)?,
-        },
-        b"r" => Line::Read {
-            address: hex_address(fields.next()?)?,
-            count: decimal(fields.next()?)?,
-        },
-        b"f" => Line::Flip {
-            address: hex_address(fields.next()?)?,
-            bit: decimal(fields.next()?)?,
-        },
-        b"s" => Line::Scrub {
-            address: hex_address(fields.next()?)?,
-        },
-        _ => return None,
-    };
-    fields.next().is_none().then_some(parsed)
-}
-
-/// Hexadecimal digits are lower case.
-fn hex_digit(digit: u8) -> Option<u8> {
-    match digit {
-        b'0'..=b'9' => Some(digit - b'0'),
-        b'a'..=b'f' => Some(digit - b'a' + 10),
-        _ => None,
-    }
-}
-
-/// LINE-3: two hexadecimal digits.
-fn hex_byte(field: &[u8]) -> Option<u8> {
-    let &[high, low] = field else {
-        return None;
-    };
-    Some(hex_digit(high)? << 4 | hex_digit(low)?)
-}
-
-/// LINE-7: an address.
-fn hex_address(field: &[u8]) -> Option<u32> {
-    if field.len() != 8 {
-        return None;
-    }
-    field.iter().try_fold(0, |address, &digit| {
-        Some(address << 4 | u32::from(hex_digit(digit)?))
-    })
-}
-
-/// LINE-4: the bytes of a write.
-fn hex_bytes(field: &[u8]) -> Option<Bytes> {
-    if !matches!(field.len(), 2 | 4 | 6 | 8 | 10 | 12 | 14 | 16) {
-        return None;
-    }
-    let mut bytes = [0; 8];
-    for (byte, digits) in bytes.iter_mut().zip(field.chunks_exact(2)) {
-        *byte = hex_byte(digits)?;
-    }
-    Some(Bytes {
-        bytes,
-        count: field.len() / 2,
-    })
-}
-
-/// LINE-8: a count or a bit.
-fn decimal(field: &[u8]) -> Option<u8> {
-    match *field {
-        [digit @ b'0'..=b'9'] => Some(digit - b'0'),
-        [tens @ b'1'..=b'9', units @ b'0'..=b'9'] => Some((tens - b'0') * 10 + (units - b'0')),
-        _ => None,
-    }
-}
-
 /// LINE-12: the part after the letter.
 fn put_refusal(out: &mut Vec<u8>, refusal: Refusal) {
     let number = refusal.number();
@@ -293,17 +187,22 @@ fn put_accepted(out: &mut Vec<u8>) {
     out.extend_from_slice(b",0");
 }
 
-/// LINE-14: the letter of an answer.
-fn put_answer(out: &mut Vec<u8>, answer: Answer) {
+/// LINE-14: a letter for each access, in their order.
+fn put_answers(out: &mut Vec<u8>, answers: &[Answer]) {
     put_accepted(out);
-    out.push(b',');
-    out.push(match answer {
+    for &answer in answers {
+        out.extend_from_slice(&[b',', letter(answer)]);
+    }
+}
+
+fn letter(answer: Answer) -> u8 {
+    match answer {
         Answer::Clean => b'n',
         Answer::Corrected => b'c',
         Answer::Uncorrectable => b'u',
         Answer::NoBank => b'e',
         Answer::Stored => b'p',
-    });
+    }
 }
 
 fn put_hex(out: &mut Vec<u8>, bytes: &[u8]) {

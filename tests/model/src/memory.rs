@@ -1,14 +1,16 @@
 //! Memory calls on a record and lent cells, and what they do to the error
-//! registers. Bursts have a file of their own.
+//! registers. Bursts and splits have files of their own.
 
 use std::ops::Range;
 
+pub use crate::answers::{Answer, Answers};
 pub use crate::bursts::{burst_read, burst_write};
 
 use crate::code::{self, Reading, CELL_BYTES, FLIP_BITS};
 use crate::map::{self, Layout};
 use crate::record::{offset::*, Record};
 use crate::refusal::Refusal;
+use crate::splits;
 
 /// C0 and C1, bit 2: the single-bit counter reached its trigger.
 const TRIGGER_BIT: u8 = 1 << 2;
@@ -17,44 +19,26 @@ const NO_BANK_BIT: u8 = 1 << 5;
 /// C4 and C5, bit 3: uncorrectable.
 const UNCORRECTABLE_BIT: u8 = 1 << 3;
 
-/// The answer of an accepted read, write or scrub, or of one beat of a burst.
-#[derive(Clone, Copy, Debug, PartialEq, Eq, Hash)]
-pub enum Answer {
-    Clean,
-    Corrected,
-    Uncorrectable,
-    Stored,
-    NoBank,
-}
-
-impl From<Reading> for Answer {
-    fn from(reading: Reading) -> Self {
-        match reading {
-            Reading::Clean => Answer::Clean,
-            Reading::Corrected(_) => Answer::Corrected,
-            Reading::Uncorrectable => Answer::Uncorrectable,
-        }
-    }
-}
-
 /// MEM-2, MEM-3: a read; its count is the length of the buffer.
 pub fn read(
     record: &mut Record,
     cells: &[u8],
     address: u32,
     buffer: &mut [u8],
-) -> Result<Answer, Refusal> {
+) -> Result<Answers, Refusal> {
     let layout = map::switched_on(record)?;
-    let part = access(address, buffer.len())?;
+    let Some(part) = inside(address, buffer.len())? else {
+        return splits::read(record, cells, &layout, address, buffer);
+    };
     let range = lent_cell(&layout, cells.len(), address)?;
     let answer = read_part(cells, range, part, buffer);
     report(record, answer, address);
-    Ok(answer)
+    Ok(Answers::Single(answer))
 }
 
 /// Fills a buffer with a part of a doubleword. This and the functions that
-/// bursts share with single calls are inlined by name: the compiler does not do
-/// it for two callers, and the calls are a baseline for speed.
+/// bursts and splits share with single calls are inlined by name: the compiler
+/// does not do it for several callers, and the calls are a baseline for speed.
 #[inline(always)]
 pub(crate) fn read_part(
     cells: &[u8],
@@ -79,13 +63,15 @@ pub fn write(
     cells: &mut [u8],
     address: u32,
     bytes: &[u8],
-) -> Result<Answer, Refusal> {
+) -> Result<Answers, Refusal> {
     let layout = map::switched_on(record)?;
-    let part = access(address, bytes.len())?;
+    let Some(part) = inside(address, bytes.len())? else {
+        return splits::write(record, cells, &layout, address, bytes);
+    };
     let range = lent_cell(&layout, cells.len(), address)?;
     let answer = write_part(cells, range, part, bytes);
     report(record, answer, address);
-    Ok(answer)
+    Ok(Answers::Single(answer))
 }
 
 /// Puts bytes in a part of a doubleword; MEM-9 without a bank.
@@ -147,16 +133,16 @@ fn scrub_cell(cell: &mut [u8; CELL_BYTES]) -> Answer {
     reading.into()
 }
 
-/// The bytes of a doubleword that an access takes: refusal 6 before 7.
-fn access(address: u32, count: usize) -> Result<Range<usize>, Refusal> {
+/// The bytes of a doubleword that a read or write takes, or refusal 6; none if
+/// it runs into the next one (MEM-17). Only then can it pass the last address,
+/// which ends a doubleword, so refusal 7 is left to splits.
+fn inside(address: u32, count: usize) -> Result<Option<Range<usize>>, Refusal> {
     if count == 0 || count > 8 {
         return Err(Refusal::BadCount);
     }
     let first = (address % 8) as usize;
-    if first + count > 8 {
-        return Err(Refusal::LeavesDoubleword);
-    }
-    Ok(first..first + count)
+    let end = first + count;
+    Ok((end <= 8).then_some(first..end))
 }
 
 /// MAP-8, MEM-11: the range of cell k; none without a bank, or refusal 9 if not
@@ -189,7 +175,7 @@ fn cell_mut(cells: &mut [u8], range: Range<usize>) -> &mut [u8; CELL_BYTES] {
         .expect("a cell is nine bytes")
 }
 
-/// The error registers after a read, write or scrub, or after one beat.
+/// The error registers after one access, with its own address.
 #[inline(always)]
 pub(crate) fn report(record: &mut Record, answer: Answer, address: u32) {
     let was_quiet = record.at(ERROR_DETECTION_1) == 0 && record.at(ERROR_DETECTION_2) == 0;

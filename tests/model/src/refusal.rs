@@ -16,8 +16,8 @@ pub enum Refusal {
     NotSwitchedOn,
     /// REF-6: a count out of range.
     BadCount,
-    /// REF-7: past the end of the doubleword.
-    LeavesDoubleword,
+    /// REF-7: past the last address.
+    PassesLastAddress,
     /// REF-8: a flip bit out of range.
     BadFlipBit,
     /// REF-9: not all of the cell is lent.
@@ -56,7 +56,7 @@ impl Refusal {
             Refusal::LockedWhileOn => 4,
             Refusal::NotSwitchedOn => 5,
             Refusal::BadCount => 6,
-            Refusal::LeavesDoubleword => 7,
+            Refusal::PassesLastAddress => 7,
             Refusal::BadFlipBit => 8,
             Refusal::CellNotLent => 9,
             Refusal::FlipWithoutBank => 10,

@@ -1,6 +1,7 @@
 //! What memory calls answer and do to the error registers.
 
 use model::memory::{flip, read, scrub, write};
+use model::Answers::Single;
 use model::{Answer, Record};
 
 /// Bank 0: MB 0, all errors enabled, and four zero cells.
@@ -27,7 +28,7 @@ fn the_counter_reports_when_it_reaches_the_trigger() {
     flip(&record, &mut cells, 8, 71).unwrap();
     for expected in [(1, 0), (2, 0x04), (3, 0x04)] {
         let answer = read(&mut record, &cells, 10 + expected.0, &mut [0]);
-        assert_eq!(answer, Ok(Answer::Corrected));
+        assert_eq!(answer, Ok(Single(Answer::Corrected)));
         let seen = (u32::from(record.at(0xB8)), record.at(0xC1));
         assert_eq!(seen, expected);
     }
@@ -55,13 +56,13 @@ fn no_bank_fills_with_ff_and_reports() {
     let mut record = start;
     let mut buffer = [0; 3];
     let answer = read(&mut record, &cells, address, &mut buffer);
-    assert_eq!((answer, buffer), (Ok(Answer::NoBank), [0xFF; 3]));
+    assert_eq!((answer, buffer), (Ok(Single(Answer::NoBank)), [0xFF; 3]));
     assert_eq!(detections(&record), (0x20, 0));
     assert_eq!(error_address(&record), address);
     for bytes in [&[1; 8][..], &[1; 3]] {
         let mut record = start;
         let answer = write(&mut record, &mut cells, address, bytes);
-        assert_eq!(answer, Ok(Answer::NoBank));
+        assert_eq!(answer, Ok(Single(Answer::NoBank)));
         assert_eq!(detections(&record), (0x20, 0));
     }
     let mut record = start;
@@ -80,19 +81,19 @@ fn uncorrectable_is_an_answer_and_leaves_the_cell() {
     let before = cells.clone();
     let mut buffer = [0; 8];
     let answer = read(&mut record, &cells, 16, &mut buffer);
-    assert_eq!(answer, Ok(Answer::Uncorrectable));
+    assert_eq!(answer, Ok(Single(Answer::Uncorrectable)));
     assert_eq!(buffer, [0x80, 0, 0, 0, 0, 0, 0, 0]);
     assert_eq!(detections(&record), (0, 0x08));
     assert_eq!(error_address(&record), 16);
     let answer = write(&mut record, &mut cells, 19, &[1]);
-    assert_eq!(answer, Ok(Answer::Uncorrectable));
+    assert_eq!(answer, Ok(Single(Answer::Uncorrectable)));
     let answer = scrub(&mut record, &mut cells, 20);
     assert_eq!(answer, Ok(Answer::Uncorrectable));
     assert_eq!(cells, before);
     // Only the first report keeps its address.
     assert_eq!(error_address(&record), 16);
     let answer = write(&mut record, &mut cells, 16, &[7; 8]);
-    assert_eq!(answer, Ok(Answer::Stored));
+    assert_eq!(answer, Ok(Single(Answer::Stored)));
     assert_eq!(scrub(&mut record, &mut cells, 16), Ok(Answer::Clean));
     assert_eq!(record.at(0xB8), 0);
 }
@@ -116,7 +117,7 @@ fn a_read_leaves_the_cell_and_a_scrub_stores_it_again() {
         let flipped = cells.clone();
         let mut buffer = [0; 8];
         let answer = read(&mut record, &cells, 0, &mut buffer);
-        assert_eq!((answer, buffer), (Ok(Answer::Corrected), [9; 8]));
+        assert_eq!((answer, buffer), (Ok(Single(Answer::Corrected)), [9; 8]));
         assert_eq!(cells, flipped);
         assert_eq!(scrub(&mut record, &mut cells, 7), Ok(Answer::Corrected));
         assert_eq!(cells, right);

@@ -6,6 +6,7 @@ use model::calls::{self, Call, Outcome};
 use model::flat::{FlatMachine, Span};
 use model::gen::{lists, setups, Rng};
 use model::map::switched_on;
+use model::Answers::Single;
 use model::{Answer, Record};
 
 /// Cells of a set-up in these tests at most: some 38 MB of lent bytes.
@@ -42,15 +43,16 @@ fn flat_machine_against_cells() {
         }
     }
     println!("{seen:?}");
-    // Single calls and register calls; bursts: four kinds of reads, two of
+    // Single calls and register calls; splits: a read or a write, each access
+    // clean, corrected or without a bank; bursts: four kinds of reads, two of
     // writes, two refusals.
-    assert_eq!(seen.len(), 13 + 4 + 2 + 2, "{seen:?}");
+    assert_eq!(seen.len(), 13 + 2 * 9 + 4 + 2 + 2, "{seen:?}");
 }
 
 /// What kind of outcome it is, bytes left out; of a burst, which answers occur.
 fn kind(outcome: &Option<Outcome>) -> String {
     match outcome {
-        Some(Outcome::Read(answer, _)) => format!("read {answer:?}"),
+        Some(Outcome::Read(answers, _)) => format!("read {answers:?}"),
         Some(Outcome::BurstRead(answers, _)) => format!("burst read {}", occurring(answers)),
         Some(Outcome::BurstWritten(answers)) => format!("burst write {}", occurring(answers)),
         other => format!("{other:?}"),
@@ -74,14 +76,11 @@ fn two_flips_break_the_condition() {
     let address = bank.start_mb << 20;
     let flip = |bit| Call::Flip { address, bit };
     let scrub = Call::Scrub { address };
-    let across = Call::Write {
-        address: address + 7,
-        bytes: vec![0; 2],
-    };
+    let refused = write(address, &[0; 9]);
     assert!(!lists::keeps_condition(&record, &[flip(1), flip(1)]));
     assert!(!lists::keeps_condition(
         &record,
-        &[flip(1), across, flip(2)]
+        &[flip(1), refused, flip(2)]
     ));
     assert!(lists::keeps_condition(
         &record,
@@ -140,17 +139,17 @@ fn flat_machine_answers_by_the_mark() {
     let flip = || Call::Flip { address: 3, bit: 9 };
     let scrub = || Call::Scrub { address: 1 };
     let list = [
-        (read(), Read(Answer::Clean, vec![0, 0])),
+        (read(), Read(Single(Answer::Clean), vec![0, 0])),
         (flip(), Flipped),
-        (read(), Read(Answer::Corrected, vec![0, 0])),
-        (write(5, &[0xAB]), Answered(Answer::Corrected)),
-        (read(), Read(Answer::Clean, vec![0, 0xAB])),
+        (read(), Read(Single(Answer::Corrected), vec![0, 0])),
+        (write(5, &[0xAB]), Answered(Single(Answer::Corrected))),
+        (read(), Read(Single(Answer::Clean), vec![0, 0xAB])),
         (flip(), Flipped),
-        (write(0, &[1; 8]), Answered(Answer::Stored)),
-        (write(6, &[2]), Answered(Answer::Clean)),
+        (write(0, &[1; 8]), Answered(Single(Answer::Stored))),
+        (write(6, &[2]), Answered(Single(Answer::Clean))),
         (flip(), Flipped),
-        (scrub(), Answered(Answer::Corrected)),
-        (scrub(), Answered(Answer::Clean)),
+        (scrub(), Answered(Single(Answer::Corrected))),
+        (scrub(), Answered(Single(Answer::Clean))),
     ];
     let mut flat = flat_megabyte();
     for (call, expected) in list {

@@ -6,7 +6,7 @@ use model::calls::{Call, Outcome};
 use model::flat::FlatMachine;
 use model::gen::{lists, scripts, setups, Rng};
 use model::map::{judge, Layout};
-use model::Answer;
+use model::{Answer, Answers};
 
 #[test]
 fn accepted_set_ups_are_mixed() {
@@ -94,7 +94,7 @@ fn burst(call: &Call) -> Option<(bool, u32, usize)> {
 
 /// What a burst shows: its faults, or where it starts and what it meets.
 fn burst_kinds(layout: &Layout, flat: &mut FlatMachine, address: u32, count: usize) -> Vec<String> {
-    let faults = (address % 8 != 0, count != 32);
+    let faults = (!address.is_multiple_of(8), count != 32);
     let mut kinds = vec![format!("faults {faults:?}")];
     if faults == (false, false) {
         kinds.push(format!("start {}", address % 32));
@@ -122,4 +122,79 @@ fn lists_have_bursts_of_all_sorts() {
     }
     // Reads and writes: faults, starts, marks from none to four, lines.
     assert_eq!(seen.len(), 2 * (4 + 4 + 5 + 6), "{seen:?}");
+}
+
+/// Of a read or write: whether it is a write, its address and its count.
+fn read_or_write(call: &Call) -> Option<(bool, u32, usize)> {
+    match call {
+        Call::Read { address, count } => Some((false, *address, *count)),
+        Call::Write { address, bytes } => Some((true, *address, bytes.len())),
+        _ => None,
+    }
+}
+
+/// What lies on both sides of the end of a doubleword.
+fn edge_kind(layout: &Layout, lower: u32) -> &'static str {
+    let Some(upper) = lower.checked_add(8) else {
+        return "past the last address";
+    };
+    match (layout.locate(lower), layout.locate(upper)) {
+        (None, None) if upper == 0xFFFF_FFF8 => "into the last doubleword",
+        (None, None) => "outside of banks",
+        (None, Some(_)) => "into a bank",
+        (Some(_), None) => "out of a bank",
+        (Some(one), Some(other)) if one.bank != other.bank => "into another bank",
+        (Some(one), Some(other)) if one.cell > other.cell => "the first cell again",
+        _ if upper.is_multiple_of(1 << 20) => "into the next megabyte",
+        _ => "inside a megabyte",
+    }
+}
+
+/// Whether a mark stands at a doubleword. The machine is not changed.
+fn is_marked(flat: &mut FlatMachine, address: u32) -> bool {
+    let read = flat.step(&Call::Read { address, count: 8 });
+    matches!(
+        read,
+        Some(Outcome::Read(Answers::Single(Answer::Corrected), _))
+    )
+}
+
+/// What a split shows: its edge, its start and count, and the marks it meets. Of
+/// what is no split only the end of the address space is of interest.
+fn split_kinds(layout: &Layout, flat: &mut FlatMachine, address: u32, count: usize) -> Vec<String> {
+    let start = address as usize % 8;
+    let lower = address & !7;
+    match (count, start + count) {
+        (1..=8, 9..) => {
+            let marks = [lower, lower.wrapping_add(8)].map(|address| is_marked(flat, address));
+            vec![
+                edge_kind(layout, lower).into(),
+                format!("start {start}, count {count}"),
+                format!("marks {marks:?}"),
+            ]
+        }
+        (1..=8, 8) if lower == 0xFFFF_FFF8 => vec!["up to the last address".into()],
+        (9.., _) if lower == 0xFFFF_FFF8 => vec!["bad count at the last address".into()],
+        _ => vec![],
+    }
+}
+
+#[test]
+fn lists_have_splits_of_all_sorts() {
+    let mut seen = HashSet::new();
+    for seed in 0..40 {
+        let rng = &mut Rng::new(seed);
+        let record = setups::accepted(rng, u32::MAX);
+        let layout = judge(&record).unwrap();
+        let mut flat = FlatMachine::of_record(&record).unwrap();
+        for call in lists::list(rng, &record, 1500) {
+            if let Some((is_write, address, count)) = read_or_write(&call) {
+                let kinds = split_kinds(&layout, &mut flat, address, count);
+                seen.extend(kinds.into_iter().map(|kind| (is_write, kind)));
+            }
+            flat.step(&call);
+        }
+    }
+    // Reads and writes: edges, starts with counts, marks, the last address.
+    assert_eq!(seen.len(), 2 * (9 + 28 + 4 + 2), "{seen:?}");
 }

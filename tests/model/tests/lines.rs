@@ -140,17 +140,23 @@ fn chunks_of_any_size_give_the_same() {
     }
 }
 
+/// The start of an output line, without bytes or values: letter, 0 or refusal,
+/// and the letters of the answers.
+fn start_of(line: &str) -> String {
+    let fields: Vec<&str> = line.split(',').collect();
+    let shown = |&(place, field): &(usize, &str)| place < 2 || field.len() == 1;
+    let kept = fields.into_iter().enumerate().filter(shown);
+    kept.map(|(_, field)| field).collect::<Vec<_>>().join(",")
+}
+
 /// A random script meets every refusal that a line can get, every answer of
-/// every letter, and reports of each kind.
+/// every letter, both answers of splits, and reports of each kind.
 #[test]
 fn random_scripts_meet_everything() {
     let script = scripts::script(&mut Rng::new(7), 60_000);
     let output = output_of(&scripts::as_input(&script));
     assert_eq!(output.lines().count(), script.len());
-    let starts: HashSet<String> = output
-        .lines()
-        .map(|line| line.split(',').take(3).collect::<Vec<_>>().join(","))
-        .collect();
+    let starts: HashSet<String> = output.lines().map(start_of).collect();
     for expected in [
         "c,0", "c,1", "c,2", "c,3", "c,4", "c,11", "c,12", "c,13", "c,14", "g,1", "r,5", "r,6",
         "r,7", "r,9", "r,0,n", "r,0,c", "r,0,u", "r,0,e", "w,5", "w,7", "w,9", "w,0,n", "w,0,c",
@@ -158,5 +164,17 @@ fn random_scripts_meet_everything() {
         "s,0,c", "s,0,u", "s,0,e", "?,18",
     ] {
         assert!(starts.contains(expected), "{expected} is missing");
+    }
+    // The last doubleword of a bank is never lent here, so no split has "no
+    // bank" behind another answer.
+    let both = [
+        "n,n", "n,c", "n,u", "c,n", "c,c", "c,u", "u,n", "u,c", "u,u",
+    ];
+    let from_no_bank = ["e,n", "e,c", "e,u", "e,e"];
+    for answers in both.into_iter().chain(from_no_bank) {
+        for letter in ["r", "w"] {
+            let expected = format!("{letter},0,{answers}");
+            assert!(starts.contains(&expected), "{expected} is missing");
+        }
     }
 }

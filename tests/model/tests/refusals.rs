@@ -1,9 +1,9 @@
-//! Each refusal but those of bursts once, its order among the others, and that it leaves everything
-//! as it was.
+//! Each refusal but those of bursts and splits once, its order among the others,
+//! and that it leaves everything as it was.
 
 use model::map::{alike, map, way_back, Column, Row};
 use model::memory::{flip, read, scrub, write};
-use model::{Answer, Record, Refusal};
+use model::{Answer, Answers, Record, Refusal};
 
 /// Bank 0: MB 0 to 1. Bank 2: MB 4. Both with nine row bits.
 fn set_up() -> Record {
@@ -91,7 +91,7 @@ fn memory_refusals_5_and_9() {
     all_refused(&on, 17, 8, Refusal::CellNotLent);
     all_refused(&on, 17, 0x0040_0000, Refusal::CellNotLent);
     let after = read(&mut on.clone(), &[0; 18], 8, &mut [0]);
-    assert_eq!(after, Ok(Answer::Clean));
+    assert_eq!(after, Ok(Answers::Single(Answer::Clean)));
 }
 
 #[test]
@@ -102,11 +102,10 @@ fn memory_refusals_6_and_7() {
     assert_eq!(read(&mut on, cells, 5, &mut [0; 9]), Err(Refusal::BadCount));
     assert_eq!(write(&mut on, cells, 0, &[]), Err(Refusal::BadCount));
     assert_eq!(write(&mut on, cells, 7, &[0; 9]), Err(Refusal::BadCount));
-    // 7 before 9, and before "no bank".
-    let across = Err(Refusal::LeavesDoubleword);
-    assert_eq!(read(&mut on, &[], 7, &mut [0; 2]), across);
-    assert_eq!(write(&mut on, cells, 1, &[0; 8]), across);
-    assert_eq!(write(&mut on, cells, 0xFFFF_FFFF, &[0; 2]), across);
+    // 7 before "no bank".
+    let passes = Err(Refusal::PassesLastAddress);
+    assert_eq!(read(&mut on, cells, 0xFFFF_FFF9, &mut [0; 8]), passes);
+    assert_eq!(write(&mut on, cells, 0xFFFF_FFFF, &[0; 2]), passes);
     // 5 before 6.
     on.set(0xF2, 0);
     let off = Err(Refusal::NotSwitchedOn);

@@ -10,7 +10,7 @@ use lib.ListN.{getD}
 use Rattle.basics.specs.Range.{every}
 use Rattle.refusals.specs.Paper.{given}
 use Rattle.registers.specs.Record.{at}
-use Rattle.banks.specs.Setup.{Bounded, setupOf, bank}
+use Rattle.banks.specs.Setup.{setupOf, bank}
 use Rattle.banks.specs.Judge.{notReady}
 use Rattle.banks.proofs.FieldLaws.{bounded}
 use Rattle.alike.specs.Alike.{compared}

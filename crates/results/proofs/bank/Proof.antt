@@ -8,7 +8,7 @@ use Rattle.refusals.specs.Paper.{paper}
 use Rattle.refusals.proofs.Refusal.{the-type}
 use Rattle.refusals.specs.declared.Refusal.{Refusal}
 use Rattle.refusals.specs.declared.Refusal.the-variants.{UnlistedOffset, ReadOnly, ValueOutOfRange, LockedWhileOn, NotReady, CountOutOfRange}
-use Rattle.refusals.specs.declared.Refusal.the-variants.{CrossesDoubleword, BitOutOfRange, NotLent, FlipWithoutBank, NoBankEnabled, StartAboveEnd}
+use Rattle.refusals.specs.declared.Refusal.the-variants.{PassesLastAddress, BitOutOfRange, NotLent, FlipWithoutBank, NoBankEnabled, StartAboveEnd}
 use Rattle.refusals.specs.declared.Refusal.the-variants.{TooLong, Overlap, BankOff, RowOrColumnTooLarge, NoAddress, MalformedLine, Misaligned, NotCacheLine}
 use borrow.Author.Needs.{needs}
 use Rattle.results.proofs.bank.Statement.{statement}
@@ -25,7 +25,7 @@ no-bank ValueOutOfRange h = refl
 no-bank LockedWhileOn h = refl
 no-bank NotReady h = refl
 no-bank CountOutOfRange h = refl
-no-bank CrossesDoubleword h = refl
+no-bank PassesLastAddress h = refl
 no-bank BitOutOfRange h = refl
 no-bank NotLent h = refl
 no-bank FlipWithoutBank h = refl

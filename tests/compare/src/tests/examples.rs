@@ -1,6 +1,13 @@
 //! The worked examples (EX-1 to EX-11) with the values of the specification,
-//! banks that end near the limit of eight bits, and bursts. Library and model
-//! are both asked, so that two that are wrong in the same way don't pass.
+//! banks that end near the limit of eight bits, and, in files of their own,
+//! splits and bursts. Library and model are both asked, so that two that are
+//! wrong in the same way don't pass.
+
+mod bursts;
+mod splits;
+
+pub use bursts::bursts;
+pub use splits::splits;
 
 use model::lines;
 use model::{Call, Record};
@@ -49,7 +56,7 @@ const fn end(start_mb: u32, last_mb: u32, row_code: u8, first: [u32; 3], last: [
 const LINES: (&str, &str) = (
     "c,90,01\nc,a0,01\nc,f2,08\nw,00000010,8000000000000000\nf,00000010,2\n\
      r,00000010,8\ng,b8\nr,00200000,1\nr,00000007,2\n",
-    "c,0\nc,0\nc,0\nw,0,p\nf,0\nr,0,c,8000000000000000\ng,0,01\nr,0,e,ff\nr,7\n",
+    "c,0\nc,0\nc,0\nw,0,p\nf,0\nr,0,c,8000000000000000\ng,0,01\nr,0,e,ff\nr,0,n,n,0000\n",
 );
 
 /// A bank of one MB that ends at MB 255, 256 and 1023: its first and last
@@ -164,23 +171,6 @@ impl Sides {
         self.goes(Request::Listed(Call::Scrub { address }), answer)
     }
 
-    /// A burst read that gives these ways and doublewords, beat by beat.
-    fn burst_read(&mut self, address: u32, beats: [(u32, [u8; 8]); 4]) -> Result<(), String> {
-        let ways = beats.map(|(way, _)| way);
-        let bytes = beats.map(|(_, bytes)| bytes).concat();
-        let request = Request::Listed(Call::BurstRead { address, count: 32 });
-        self.ask(&request, |given| {
-            has_beats(given, ways) && given.buffer.starts_with(&bytes)
-        })
-    }
-
-    /// A burst write of these doublewords that goes the same way at each beat.
-    fn burst_write(&mut self, address: u32, beats: [[u8; 8]; 4], way: u32) -> Result<(), String> {
-        let bytes = beats.concat();
-        let request = Request::Listed(Call::BurstWrite { address, bytes });
-        self.ask(&request, |given| has_beats(given, [way; 4]))
-    }
-
     /// The check byte of cell 0; the sides are known to be the same.
     fn check_byte(&self, expected: u8) -> Result<(), String> {
         let check = self.library.cells()[8];
@@ -190,11 +180,6 @@ impl Sides {
             Err(format!("check byte {check:02x}, not {expected:02x}"))
         }
     }
-}
-
-fn has_beats(given: &Given, ways: [u32; 4]) -> bool {
-    let [first, second, third, fourth] = ways.map(|way| way - ACCEPTED);
-    given.result == 0 && given.numbers == [4, first, second, third, fourth]
 }
 
 /// EX-3
@@ -389,85 +374,6 @@ fn counter_stops() -> Result<(), String> {
     sides.get(0xB8, 255)?;
     sides.get(0xC1, 0)?;
     sides.scrub(0, CLEAN)
-}
-
-/// MEM-13 to MEM-16, worked out by hand: bank 0 is MB 0, and all its cells are
-/// lent.
-pub fn bursts() -> Result<String, String> {
-    let writes = [(0xA0, 1), (0xF2, 8), (0xB9, 2), (0xC0, 0xFF), (0xC4, 0xFF)];
-    let mut sides = Sides::with(0x2_0000, &writes)?;
-    for line in [0, 0x000F_FFE0] {
-        bursts_of_a_line(&mut sides, line)?;
-    }
-    for start in [
-        0xFFFF_FFE0,
-        0xFFFF_FFE8,
-        0xFFFF_FFF0,
-        0xFFFF_FFF8,
-        0x0010_0000,
-    ] {
-        bursts_without_a_bank(&mut sides, start)?;
-    }
-    reports_of_a_burst(&mut sides)?;
-    Ok("the first and the last line of a bank, and lines without a bank".to_string())
-}
-
-/// Whatever doubleword a burst starts at, doubleword k of the line gets k + 1.
-fn bursts_of_a_line(sides: &mut Sides, line: u32) -> Result<(), String> {
-    for (start, order) in [
-        (0, [1, 2, 3, 4]),
-        (8, [2, 3, 4, 1]),
-        (16, [3, 4, 1, 2]),
-        (24, [4, 1, 2, 3]),
-    ] {
-        sides.burst_write(line + 8, [[0xEE; 8]; 4], STORED)?;
-        sides.burst_write(line + start, order.map(|byte| [byte; 8]), STORED)?;
-        for (address, byte) in (line..).step_by(8).zip(1..=4) {
-            sides.read(address, CLEAN, &[byte; 8])?;
-        }
-        sides.burst_read(line + start, order.map(|byte| (CLEAN, [byte; 8])))?;
-    }
-    Ok(())
-}
-
-/// The first beat is the one whose address is stored.
-fn bursts_without_a_bank(sides: &mut Sides, start: u32) -> Result<(), String> {
-    sides.set(0xC1, 0xFF, ACCEPTED)?;
-    sides.burst_read(start, [(NO_BANK, [0xFF; 8]); 4])?;
-    sides.get(0xC1, 0x20)?;
-    for (offset, byte) in (0xC8..).zip(start.to_le_bytes()) {
-        sides.get(offset, byte)?;
-    }
-    sides.burst_write(start, [[0; 8]; 4], NO_BANK)
-}
-
-/// From 18 on the beats are corrected, clean, uncorrectable and corrected. The
-/// third is the first to set a bit, and B8 reaches B9 with the fourth.
-fn reports_of_a_burst(sides: &mut Sides) -> Result<(), String> {
-    sides.set(0xC1, 0xFF, ACCEPTED)?;
-    sides.burst_write(0, [[0; 8]; 4], STORED)?;
-    for (address, bit) in [(0x18, 71), (0x08, 0), (0x08, 9), (0x10, 13)] {
-        sides.flip(address, bit, FLIPPED)?;
-    }
-    sides.burst_read(
-        0x18,
-        [
-            (CORRECTED, [0; 8]),
-            (CLEAN, [0; 8]),
-            (UNCORRECTABLE, [0x80, 0x40, 0, 0, 0, 0, 0, 0]),
-            (CORRECTED, [0; 8]),
-        ],
-    )?;
-    for (offset, value) in [
-        (0xB8, 2),
-        (0xC1, 0x04),
-        (0xC5, 0x08),
-        (0xC8, 0x08),
-        (0xC9, 0),
-    ] {
-        sides.get(offset, value)?;
-    }
-    Ok(())
 }
 
 pub fn lines(busline: &Busline) -> Result<String, String> {

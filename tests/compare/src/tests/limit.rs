@@ -10,9 +10,11 @@ use crate::draw;
 use crate::limit;
 use crate::request::{nonzero, Given, Request, State};
 use crate::tests::memory;
+use crate::tests::splits::edges;
 
 const CASES: usize = 12_000;
 const MAPS: usize = 12;
+const LAST_ADDRESSES: usize = 100;
 
 pub fn beside_the_library(rng: &mut Rng) -> Result<String, String> {
     let mut coverage = Coverage::new();
@@ -20,7 +22,14 @@ pub fn beside_the_library(rng: &mut Rng) -> Result<String, String> {
         check(&memory::few_cells_case(rng), &mut coverage)?;
         check(&maps(rng), &mut coverage)?;
     }
-    coverage.check(memory::all_ways().chain(ways("map", &[0, 1], &[5])))?;
+    for _ in 0..LAST_ADDRESSES {
+        check(&edges::last_case(rng), &mut coverage)?;
+    }
+    for case in edges::cases(rng) {
+        check(&case, &mut coverage)?;
+    }
+    let maps = ways("map", &[0, 1], &[5]);
+    coverage.check(memory::all_ways().chain(edges::bank_ways()).chain(maps))?;
     Ok(format!("{CASES} records and cells"))
 }
 

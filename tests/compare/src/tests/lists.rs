@@ -9,13 +9,13 @@ use model::record::{offset, SWITCH_ON};
 use model::{Call, Outcome, Record};
 
 use crate::answers::{self, ACCEPTED};
-use crate::case::{met, ways, Met};
+use crate::case::{met, mixtures, ways, Met};
 use crate::coverage::Coverage;
 use crate::draw;
 use crate::library;
 use crate::request::{nonzero, Given, Request, State};
 use crate::shrink::{self, Budget};
-use crate::tests::bursts;
+use crate::tests::splits;
 
 const LISTS: usize = 1_500;
 const CALLS: usize = 400;
@@ -111,6 +111,7 @@ fn difference(
 /// LIST-8, LIST-9: what the library has to give for an outcome of the flat
 /// machine.
 fn from_flat(request: &Request, outcome: Outcome) -> Given {
+    let of_parts = answers::numbers_of_parts;
     let mut given = Given::before(request);
     let (numbers, bytes) = match outcome {
         Outcome::Refused(refusal) => {
@@ -118,10 +119,10 @@ fn from_flat(request: &Request, outcome: Outcome) -> Given {
             return given;
         }
         Outcome::Flipped => return given,
-        Outcome::Answered(answer) => (answers::numbers_of_memory(answer), Vec::new()),
-        Outcome::Read(answer, bytes) => (answers::numbers_of_memory(answer), bytes),
-        Outcome::BurstWritten(beats) => (answers::numbers_of_burst(beats), Vec::new()),
-        Outcome::BurstRead(beats, bytes) => (answers::numbers_of_burst(beats), bytes),
+        Outcome::Answered(parts) => (of_parts(parts.kinds()), Vec::new()),
+        Outcome::Read(parts, bytes) => (of_parts(parts.kinds()), bytes),
+        Outcome::BurstWritten(beats) => (of_parts(&beats), Vec::new()),
+        Outcome::BurstRead(beats, bytes) => (of_parts(&beats), bytes),
     };
     given.numbers = numbers;
     given.lent_buffer().copy_from_slice(&bytes);
@@ -159,11 +160,13 @@ fn smallest(off: &Record, calls: &[Call]) -> String {
 
 /// Under the condition nothing is uncorrectable, and every cell is lent.
 fn wanted() -> impl Iterator<Item = Met> {
-    ways("read", &[1, 2, 5], &[6, 7])
-        .chain(ways("write", &[1, 2, 4, 5], &[6, 7]))
+    ways("read", &[1, 2, 5], &[6])
+        .chain(ways("write", &[1, 2, 4, 5], &[6]))
         .chain(ways("scrub", &[1, 2, 5], &[]))
         .chain(ways("flip", &[0], &[8, 10]))
-        .chain(bursts::mixtures("burst read", &[1, 2]))
+        .chain(splits::of_both(|kind| mixtures(kind, 2, &[1, 2, 5])))
+        .chain(splits::of_both(|kind| ways(kind, &[], &[7])))
+        .chain(mixtures("burst read", 4, &[1, 2]))
         .chain(ways("burst read", &[0x5555], &[19, 20]))
         .chain(ways("burst write", &[0x4444, 0x5555], &[19, 20]))
 }

@@ -1,6 +1,6 @@
 //! Memory calls on lent cells of any length.
 
-use model::code::{self, CELL_BYTES, FLIP_BITS};
+use model::code::{CELL_BYTES, FLIP_BITS};
 use model::gen::{setups, Rng};
 use model::map::{self, Layout};
 use model::record::offset;
@@ -9,12 +9,12 @@ use model::{Call, Record};
 use crate::case::{ways, Case, Met};
 use crate::coverage::Coverage;
 use crate::draw;
+use crate::lent;
 use crate::request::Request;
-use crate::tests::bursts;
+use crate::tests::{bursts, splits};
 
 const CASES: usize = 16_000;
 const CALLS: usize = 60;
-const MOST_CELLS: u32 = 12;
 
 const TWO_BANK_CASES: usize = 24;
 const TWO_BANK_CALLS: usize = 200;
@@ -23,9 +23,6 @@ const TWO_BANK_CALLS: usize = 200;
 const TWO_BANK_CELLS: u32 = 1 << 19;
 
 const FLIP_CASES: usize = 40;
-
-/// How often a record is drawn again because no address has a lent cell.
-const REDRAWS: usize = 20;
 
 /// Few cells are lent, so that most calls hit the same ones again; the last one
 /// is often only partly lent.
@@ -44,12 +41,12 @@ pub fn two_banks(rng: &mut Rng) -> Result<String, String> {
     for _ in 0..TWO_BANK_CASES {
         two_bank_case(rng).check(&mut coverage)?;
     }
-    let burst_reads = ways("burst read", &[0x1111, 0x5555], &[9]);
-    let burst_writes = ways("burst write", &[0x4444, 0x5555], &[9]);
     coverage.check(
         ways("read", &[1, 2, 3, 5], &[9])
-            .chain(burst_reads)
-            .chain(burst_writes),
+            .chain(ways("split read", &[0x11], &[9]))
+            .chain(ways("split write", &[0x11], &[9]))
+            .chain(ways("burst read", &[0x1111, 0x5555], &[9]))
+            .chain(ways("burst write", &[0x4444, 0x5555], &[9])),
     )?;
     Ok(format!(
         "{TWO_BANK_CASES} records and cells, {TWO_BANK_CALLS} calls each"
@@ -60,10 +57,7 @@ pub fn two_banks(rng: &mut Rng) -> Result<String, String> {
 pub fn every_flip(rng: &mut Rng) -> Result<String, String> {
     let mut coverage = Coverage::new();
     for _ in 0..FLIP_CASES {
-        let record = record_with_cells(rng, &[0]);
-        let Some(&address) = draw::addresses_of_cells(&record, &[0]).first() else {
-            continue;
-        };
+        let (record, address) = lent::record_with_cell(rng, 0);
         for bit in 0..FLIP_BITS {
             let case = Case {
                 record,
@@ -78,55 +72,19 @@ pub fn every_flip(rng: &mut Rng) -> Result<String, String> {
 }
 
 pub fn all_ways() -> impl Iterator<Item = Met> {
-    ways("read", &[1, 2, 3, 5], &[5, 6, 7, 9])
-        .chain(ways("write", &[1, 2, 3, 4, 5], &[5, 6, 7, 9]))
+    ways("read", &[1, 2, 3, 5], &[5, 6, 9])
+        .chain(ways("write", &[1, 2, 3, 4, 5], &[5, 6, 9]))
         .chain(ways("scrub", &[1, 2, 3, 5], &[5, 9]))
         .chain(ways("flip", &[0], &[5, 8, 9, 10]))
         .chain(ways("wide flip", &[], &[5, 8]))
+        .chain(splits::all_ways())
         .chain(bursts::all_ways())
 }
 
 pub fn few_cells_case(rng: &mut Rng) -> Case {
-    let (mut case, hot) = few_cells_lent(rng);
+    let (mut case, hot) = lent::few_cells(rng);
     case.requests = requests(rng, &case.record, &hot, CALLS);
     case
-}
-
-/// A case without calls yet, and addresses of its cells and of those just past
-/// the end of what is lent.
-pub fn few_cells_lent(rng: &mut Rng) -> (Case, Vec<u32>) {
-    let lent = rng.below(MOST_CELLS + 1);
-    // The cells at and past the end of what is lent are asked for too.
-    let numbers: Vec<u32> = (0..lent + 2).collect();
-    let record = if rng.percent(85) {
-        record_with_cells(rng, &numbers)
-    } else {
-        draw::mostly_on(rng)
-    };
-    let mut cells = cells(rng, lent);
-    if rng.percent(40) {
-        let length = cells.len().saturating_sub(1 + rng.below(8) as usize);
-        cells.truncate(length);
-    }
-    let hot = draw::addresses_of_cells(&record, &numbers);
-    let case = Case {
-        record,
-        cells,
-        requests: Vec::new(),
-    };
-    (case, hot)
-}
-
-/// A record that has an address for one of the cells, if one is found.
-pub fn record_with_cells(rng: &mut Rng, numbers: &[u32]) -> Record {
-    let mut record = draw::mostly_on(rng);
-    for _ in 0..REDRAWS {
-        if !draw::addresses_of_cells(&record, numbers).is_empty() {
-            break;
-        }
-        record = draw::mostly_on(rng);
-    }
-    record
 }
 
 fn two_bank_case(rng: &mut Rng) -> Case {
@@ -160,30 +118,6 @@ fn two_bank_case(rng: &mut Rng) -> Case {
     }
 }
 
-/// Cells of all conditions.
-pub fn cells(rng: &mut Rng, count: u32) -> Vec<u8> {
-    (0..count).flat_map(|_| cell(rng)).collect()
-}
-
-/// Zero, valid, with one or two bits inverted, or any nine bytes.
-fn cell(rng: &mut Rng) -> [u8; CELL_BYTES] {
-    let mut cell = [0; CELL_BYTES];
-    cell.fill_with(|| rng.byte());
-    let flips = match rng.below(8) {
-        0 => return [0; CELL_BYTES],
-        1 => return cell,
-        2..=4 => 0,
-        5 | 6 => 1,
-        _ => 2,
-    };
-    let (data, _) = code::split_cell(&cell);
-    code::store_cell(&mut cell, &data);
-    for _ in 0..flips {
-        code::flip(&mut cell, rng.below(u32::from(FLIP_BITS)) as u8);
-    }
-    cell
-}
-
 fn requests(rng: &mut Rng, record: &Record, hot: &[u32], count: usize) -> Vec<Request> {
     let layout = map::judge(record).ok();
     (0..count)
@@ -206,37 +140,29 @@ fn widened(rng: &mut Rng, call: Call) -> Request {
     }
 }
 
-/// Mostly an address of a cell that is lent or nearly so.
-pub fn hot_address(rng: &mut Rng, layout: Option<&Layout>, hot: &[u32]) -> u32 {
-    if hot.is_empty() || rng.percent(10) {
-        draw::address(rng, layout)
-    } else {
-        rng.pick(hot) + rng.below(8)
-    }
-}
-
 fn call(rng: &mut Rng, layout: Option<&Layout>, hot: &[u32]) -> Call {
-    let address = hot_address(rng, layout, hot);
+    let address = lent::hot_address(rng, layout, hot);
     match rng.below(100) {
-        0..=19 => {
+        0..=15 => {
             let count = count(rng, address);
             Call::Read { address, count }
         }
-        20..=31 => {
+        16..=25 => {
             let count = count(rng, address);
             let bytes = rng.bytes(count);
             Call::Write { address, bytes }
         }
-        32..=39 => Call::Write {
+        26..=33 => Call::Write {
             address: address & !7,
             bytes: rng.bytes(8),
         },
-        40..=56 => Call::Flip {
+        34..=49 => Call::Flip {
             address,
             bit: flip_bit(rng),
         },
-        57..=69 => Call::Scrub { address },
-        70..=86 => draw::burst(rng, address),
+        50..=59 => Call::Scrub { address },
+        60..=75 => draw::burst(rng, address),
+        76..=86 => draw::split(rng, address),
         87..=97 => error_register_call(rng),
         _ => Call::WriteRegister {
             offset: offset::SWITCH,

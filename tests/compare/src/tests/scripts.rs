@@ -27,6 +27,13 @@ const HEADS: &[&str] = &[
     "s,0,e", "s,5", "s,9", "?,18",
 ];
 
+/// The answers of splits (LINE-14) that the random scripts must produce, of
+/// reads and of writes. A part without a bank behind one that has a bank is not
+/// among them: the cell of the one before it is not lent to `busline`.
+const SPLITS: &[&str] = &[
+    "n,n", "n,c", "n,u", "c,n", "c,c", "c,u", "u,n", "u,c", "u,u", "e,n", "e,c", "e,u", "e,e",
+];
+
 /// Whole scripts of the model's generator, in odd chunks.
 pub fn random_scripts(rng: &mut Rng, busline: &Busline) -> Result<String, String> {
     let mut coverage = Coverage::new();
@@ -43,6 +50,10 @@ pub fn random_scripts(rng: &mut Rng, busline: &Busline) -> Result<String, String
         }
     }
     coverage.check(HEADS.iter().map(|head| head.as_bytes().to_vec()))?;
+    for letter in ["r", "w"] {
+        let split = |answers| format!("{letter},0,{answers}").into_bytes();
+        coverage.check(SPLITS.iter().map(split))?;
+    }
     let lines = LONG_SCRIPTS * LONG_LINES + MIDDLE_SCRIPTS * MIDDLE_LINES;
     Ok(format!("{lines} lines"))
 }
@@ -138,11 +149,13 @@ fn model_output(input: &[u8]) -> Vec<u8> {
     output
 }
 
-/// Letter and number, with the answer of w, r and s, without what is read.
+/// Letter and number, with the answers of w, r and s, which are one letter
+/// each, without what is read.
 fn head(line: &[u8]) -> Vec<u8> {
-    let fields: Vec<&[u8]> = line.split(|&byte| byte == b',').take(3).collect();
-    let count = if line.starts_with(b"g") { 2 } else { 3 };
-    fields[..fields.len().min(count)].join(&b',')
+    let fields: Vec<&[u8]> = line.split(|&byte| byte == b',').collect();
+    let answers = fields.iter().skip(2);
+    let answers = answers.take_while(|field| field.len() == 1).count();
+    fields[..fields.len().min(2 + answers)].join(&b',')
 }
 
 /// The smallest script found on which the outputs differ, with the first

@@ -3,15 +3,18 @@
 
 use std::collections::HashSet;
 
-use super::{setups, Rng};
+use super::{edges, setups, Rng};
 use crate::calls::Call;
 use crate::flat::{doubleword, FlatMachine};
 use crate::map::{self, Layout};
 use crate::record::Record;
 
 /// Number of addresses that are used again and again in one list, besides those
-/// of [`hot_lines`].
+/// of [`edges::lines`] and those at both sides of each [`edges::edge`].
 const HOT_ADDRESSES: usize = 16;
+
+/// Number of places in one list that many splits run over.
+const HOT_EDGES: usize = 8;
 
 /// Lengths that a burst does not take; 288 is 32 in eight bits.
 const BAD_LENGTHS: [usize; 10] = [0, 1, 8, 16, 24, 31, 33, 40, 64, 288];
@@ -23,6 +26,7 @@ pub fn list(rng: &mut Rng, record: &Record, length: usize) -> Vec<Call> {
     let mut list = ListMaker {
         rng,
         hot: Vec::new(),
+        edges: Vec::new(),
         flat,
         flipped: HashSet::new(),
         calls: Vec::with_capacity(length),
@@ -37,6 +41,8 @@ pub fn list(rng: &mut Rng, record: &Record, length: usize) -> Vec<Call> {
 struct ListMaker<'a> {
     rng: &'a mut Rng,
     hot: Vec<u32>,
+    /// The lower doublewords of splits.
+    edges: Vec<u32>,
     /// Only its spans are used.
     flat: FlatMachine,
     /// Doublewords that took a flip and no write or scrub since.
@@ -51,9 +57,15 @@ impl ListMaker<'_> {
             self.hot.push(address & !7);
         }
         // All four doublewords, so that one burst meets several flips.
-        for line in hot_lines(self.rng, layout) {
+        for line in edges::lines(self.rng, layout) {
             self.hot
                 .extend([0, 8, 16, 24].map(|distance| line + distance));
+        }
+        // Both doublewords, so that one split meets two flips.
+        for _ in 0..HOT_EDGES {
+            let edge = edges::edge(self.rng, layout);
+            self.edges.push(edge);
+            self.hot.extend([edge, edge.wrapping_add(8)]);
         }
     }
 
@@ -73,33 +85,39 @@ impl ListMaker<'_> {
         }
     }
 
-    /// Mostly a count that stays in the doubleword.
-    fn count(&mut self, address: u32) -> usize {
+    /// Address and count of a read or write: many splits, few bad counts.
+    fn access(&mut self) -> (u32, usize) {
+        let address = self.address();
         match self.rng.below(20) {
-            0 => 0,
-            1 => 9 + self.rng.below(20) as usize,
-            2 => 1 + self.rng.below(8) as usize,
-            _ => 1 + self.rng.below(8 - address % 8) as usize,
+            0 => (address, 0),
+            1 => (address, 9 + self.rng.below(20) as usize),
+            2 | 3 => edges::split(self.rng, address & !7),
+            4..=7 => {
+                let edge = self.rng.pick(&self.edges);
+                edges::split(self.rng, edge)
+            }
+            8..=11 => (address & !7, 8),
+            _ => (address, 1 + self.rng.below(8 - address % 8) as usize),
         }
     }
 
     fn add_read(&mut self) {
-        let address = self.address();
-        let count = self.count(address);
+        let (address, count) = self.access();
         self.calls.push(Call::Read { address, count });
     }
 
     fn add_write(&mut self) {
-        let mut address = self.address();
-        let mut count = self.count(address);
-        if self.rng.percent(30) {
-            address &= !7;
-            count = 8;
-        }
+        let (address, count) = self.access();
+        self.push_write(address, count);
+    }
+
+    /// LIST-6: an accepted split write writes both of its doublewords.
+    fn push_write(&mut self, address: u32, count: usize) {
         let bytes = self.rng.bytes(count);
-        let stays = count > 0 && address as usize % 8 + count <= 8;
-        if stays {
+        let end = u64::from(address) + count as u64;
+        if (1..=8).contains(&count) && end <= 1 << 32 {
             self.flipped.remove(&doubleword(address));
+            self.flipped.remove(&doubleword((end - 1) as u32));
         }
         self.calls.push(Call::Write { address, bytes });
     }
@@ -152,8 +170,8 @@ impl ListMaker<'_> {
         self.calls.push(Call::BurstWrite { address, bytes });
     }
 
-    /// A flip; one that would break the condition gets a scrub, a short write
-    /// or a burst write before it.
+    /// A flip; one that would break the condition gets a scrub or a write of
+    /// some kind before it.
     fn add_flip(&mut self) {
         let address = self.address();
         let bit = if self.rng.percent(5) {
@@ -171,12 +189,16 @@ impl ListMaker<'_> {
         self.calls.push(Call::Flip { address, bit });
     }
 
+    /// A split reaches the doubleword, which has a bank, from either side; there
+    /// is none before doubleword 0.
     fn add_mend(&mut self, address: u32) {
-        match self.rng.below(5) {
+        match self.rng.below(6) {
             0 | 1 => self.calls.push(Call::Scrub { address }),
-            2 | 3 => {
-                let bytes = self.rng.bytes(1);
-                self.calls.push(Call::Write { address, bytes });
+            2 | 3 => self.push_write(address, 1),
+            4 => {
+                let lower = (address & !7).saturating_sub(self.rng.pick(&[0, 8]));
+                let (address, count) = edges::split(self.rng, lower);
+                self.push_write(address, count);
             }
             _ => {
                 let start = self.line_start(address);
@@ -197,24 +219,6 @@ impl ListMaker<'_> {
     }
 }
 
-/// Lines where a burst that does not wrap, or wraps elsewhere, is found out: the
-/// first and the last line of a bank, a line just outside of it, and one at an
-/// end of the address space. Two more are anywhere.
-fn hot_lines(rng: &mut Rng, layout: &Layout) -> [u32; 6] {
-    let banks: Vec<_> = layout.enabled().map(|(_, bank)| *bank).collect();
-    let bank = rng.pick(&banks);
-    let first = bank.start_mb << 20;
-    let after = (bank.last_mb + 1) << 20;
-    [
-        first,
-        after - 32,
-        rng.pick(&[first.wrapping_sub(32), after]),
-        rng.pick(&[0xFFFF_FFE0, 0xFFFF_FFC0, 0]),
-        setups::address(rng, layout) & !31,
-        setups::address(rng, layout) & !31,
-    ]
-}
-
 /// True if a list meets LIST-6, judged by the flat machine's refusals; an
 /// independent check on [`list`].
 pub fn keeps_condition(record: &Record, calls: &[Call]) -> bool {
@@ -225,8 +229,14 @@ pub fn keeps_condition(record: &Record, calls: &[Call]) -> bool {
         let accepted = !matches!(flat.step(call), Some(Outcome::Refused(_)));
         match call {
             Call::Flip { address, .. } if accepted => flipped.insert(doubleword(*address)),
-            Call::Write { address, .. } | Call::Scrub { address } if accepted => {
+            Call::Scrub { address } if accepted => {
                 flipped.remove(&doubleword(*address));
+                true
+            }
+            Call::Write { address, bytes } if accepted => {
+                for (address, _) in (*address..=u32::MAX).zip(bytes) {
+                    flipped.remove(&doubleword(address));
+                }
                 true
             }
             Call::BurstWrite { address, .. } if accepted => {

@@ -4,7 +4,7 @@ use model::calls::{self, Call, Outcome};
 use model::flat::{FlatMachine, Span};
 use model::gen::{lists, Rng};
 use model::map::switched_on;
-use model::{Answer, Refusal};
+use model::{Answer, Answers, Refusal};
 
 use crate::beats;
 use crate::single_calls::random_record;
@@ -31,7 +31,7 @@ fn read_by_parts(flat: &mut FlatMachine, address: u32) -> Outcome {
     let mut all = Vec::new();
     let answers = beats(address).map(|address| {
         let part = flat.step(&Call::Read { address, count: 8 });
-        let Some(Outcome::Read(answer, bytes)) = part else {
+        let Some(Outcome::Read(Answers::Single(answer), bytes)) = part else {
             panic!("a read of a doubleword: {part:?}");
         };
         all.extend(bytes);
@@ -45,7 +45,7 @@ fn written_by_parts(flat: &mut FlatMachine, address: u32, bytes: &[u8]) -> Outco
     Outcome::BurstWritten(beats(address).map(|address| {
         let bytes = parts.next().unwrap().to_vec();
         let part = flat.step(&Call::Write { address, bytes });
-        let Some(Outcome::Answered(answer)) = part else {
+        let Some(Outcome::Answered(Answers::Single(answer))) = part else {
             panic!("a write of a doubleword: {part:?}");
         };
         answer

@@ -8,7 +8,7 @@ mod reports;
 mod single_calls;
 
 use model::memory::{flip, write};
-use model::Record;
+use model::{Answer, Answers, Record};
 
 /// The line that the small tests use. In [`set_up`] it has cells 4 to 7.
 pub(crate) const LINE: u32 = 0x20;
@@ -50,6 +50,14 @@ pub(crate) fn with_flips(flips: [u8; 4]) -> (Record, Vec<u8>) {
         }
     }
     (record, cells)
+}
+
+/// The answer of a read or write inside a doubleword.
+pub(crate) fn single(answers: Answers) -> Answer {
+    match answers {
+        Answers::Single(answer) => answer,
+        Answers::Split(_) => panic!("a doubleword was split: {answers:?}"),
+    }
 }
 
 pub(crate) fn error_address(record: &Record) -> u32 {

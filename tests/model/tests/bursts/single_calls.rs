@@ -7,7 +7,7 @@ use model::map::{map, switched_on};
 use model::memory::{burst_read, burst_write, flip, read, write};
 use model::{Answer, Record};
 
-use crate::beats;
+use crate::{beats, single};
 
 /// The single reads of a burst, one after the other.
 pub(crate) fn four_reads(
@@ -18,9 +18,9 @@ pub(crate) fn four_reads(
     let mut bytes = Vec::new();
     let answers = beats(address).map(|beat| {
         let mut buffer = [0; 8];
-        let answer = read(record, cells, beat, &mut buffer).unwrap();
+        let answers = read(record, cells, beat, &mut buffer).unwrap();
         bytes.extend(buffer);
-        answer
+        single(answers)
     });
     (answers, bytes)
 }
@@ -33,7 +33,7 @@ pub(crate) fn four_writes(
     bytes: &[u8],
 ) -> [Answer; 4] {
     let mut parts = bytes.chunks(8);
-    beats(address).map(|beat| write(record, cells, beat, parts.next().unwrap()).unwrap())
+    beats(address).map(|beat| single(write(record, cells, beat, parts.next().unwrap()).unwrap()))
 }
 
 /// A burst read and its single reads, from the same record: all must be equal.

@@ -1,17 +1,13 @@
-use mathlib.Core.Path.{ap, _∙_}
-use Prim.Native.Nat.{ℕ}
 use mathlib.Core.Option.{some}
+use native.Mathlib.Omega.{arith}
 use Rattle.registers.specs.Record.{recordOf}
-use Rattle.ecc.specs.Columns.{columns}
 use Rattle.ecc.proofs.ColumnLaws.{own-columns}
-use Rattle.error_registers.specs.Errors.{reported}
-use Rattle.calls.specs.Calls.{beatAddress, readIn}
-use Rattle.calls.specs.State.{state}
+use Rattle.calls.specs.Calls.{beatAddress}
 use Rattle.calls.proofs.BeatLaws.{beat-aligned}
 use Rattle.cache_line.specs.CodeLine.{cellInLine}
 use Rattle.memory.proofs.LineLaws.{line-lent}
-use Rattle.memory.proofs.BurstLaws.{access-done}
-use Rattle.memory.proofs.WholeLaws.{whole-read}
+use Rattle.memory.proofs.FetchLaws.{fetched-read}
+use Rattle.memory.proofs.WholeLaws.{all-taken}
 use borrow.Author.Needs.{needs}
 use Rattle.memory.proofs.burst_read.read_beat.Statement.{statement}
 use Rattle.memory.proofs.burst_read.read_beat.Tie as tie
@@ -21,22 +17,22 @@ syndrome-at-requires c κs =
     let s = c .before .before .before .before in
     rw (c .before .cell-in-line .ensures) (line-lent (s .args .cells .now) (c .before .before .beat-address .result) (s .args .last) (s .pre .1) (s .pre .0))
 
-load-requires : tie.Need-load-requires
-load-requires c κs =
+fetch-requires : tie.Need-fetch-requires
+fetch-requires c κs =
     let s = c .before .before .before .before .before .before in
-    (rw (c .before .before .before .cell-in-line .ensures) (line-lent (s .args .cells .now) (c .before .before .before .before .beat-address .result) (s .args .last) (s .pre .1) (s .pre .0)), c .before .syndrome-at .ensures)
+    (rw (c .before .before .before .cell-in-line .ensures) (line-lent (s .args .cells .now) (c .before .before .before .before .beat-address .result) (s .args .last) (s .pre .1) (s .pre .0)), rw own-columns at (c .before .syndrome-at .ensures))
 
 returns : tie.Need-returns
 returns c =
-    let s = c .before .before .before .before .before .before .before .before .before .before in
+    let s = c .before .before .before .before .before .before .before in
     let a = s .args in
     let at = beatAddress (a .address) (a .i) in
     let k = cellInLine at (a .last) in
-    let loaded = c .before .before .before .load .result in
-    let read = whole-read columns (a .cells .now) k at (loaded .doubleword) (loaded .reading)
-    (rw (own-columns, c .before .before .before .before .before .before .before .cell-in-line .ensures, c .before .before .before .before .before .before .before .before .beat-address .ensures) at (c .before .before .before .load .ensures)) (beat-aligned (a .address) (a .i) (s .pre .2)) in
-    access-done columns (some k) (state (recordOf (a .registers .now)) (a .cells .now)) (readIn at 8) (rw (← c .before .before .kind-of .ensures) at read)
-    (ap recordOf (c .report .ensures) ∙ ap (λ (x : ℕ). reported (c .before .before .kind-of .result) x (recordOf (a .registers .now))) (c .before .before .before .before .before .before .before .before .beat-address .ensures))
+    let aligned = beat-aligned (a .address) (a .i) (s .pre .2) in
+    let fetched = rw (c .before .before .before .before .cell-in-line .ensures, c .before .before .before .before .before .beat-address .ensures) at (c .fetch .ensures .0) in
+    let reports = rw (c .before .before .before .before .before .beat-address .ensures) at (c .fetch .ensures .1) in
+    let read = fetched-read (a .cells .now) (c .fetch .result) (recordOf (a .registers .now)) _ at reports (some k) fetched 8 (omega (arith, aligned)) in
+    rw (all-taken (c .fetch .result .doubleword) at aligned) at read
 
 pub read-beat-spec : {M : Type 1} → statement M
 read-beat-spec =
@@ -46,8 +42,5 @@ read-beat-spec =
     (λ c κs. search needs)
     (λ c. search needs)
     syndrome-at-requires
-    (λ c. search needs)
-    load-requires
-    (λ c κs. search needs)
-    (λ c κs. search needs)
+    fetch-requires
     returns)

@@ -11,8 +11,8 @@ use Rattle.calls.proofs.SpanLaws.{burst-fits}
 use Rattle.cache_line.specs.CodeLine.{lastDoubleword}
 use Rattle.memory.proofs.LineLaws.{end-is-last}
 use Rattle.memory.proofs.JudgeLaws.{judged-as}
-use Rattle.memory.proofs.CallLaws.{called-refused, judged-arguments}
-use Rattle.memory.proofs.BurstLaws.{burst-write-refusal, burst-write-done, write-missed}
+use Rattle.memory.proofs.CallLaws.{called-refused, called-accepted, judged-arguments}
+use Rattle.memory.proofs.BurstLaws.{burst-write-refusal, write-missed}
 use borrow.Author.Needs.{needs}
 use Rattle.memory.proofs.burst_write.burst_write_in_place.Statement.{statement}
 use Rattle.memory.proofs.burst_write.burst_write_in_place.Tie as tie
@@ -41,7 +41,7 @@ returns-2 c =
     let j = judged-as st end _ (c .before .before .before .before .before .judge-burst .result) _ (rw (c .before .before .before .before .before .before .before .before .last-doubleword .ensures) at (c .before .before .before .before .before .before .locate .ensures)) (c .before .before .before .before .judge .ensures) (c .before .before .enum-told .given .1) (c .before .before .before .before .before .judge-burst .ensures) in
     let bs = a .bytes .now in
     rw (c .miss-beats .ensures .0, c .miss-beats .ensures .1)
-    (sym (burst-write-done columns st (a .address) bs (burst-write-refusal st (a .address) bs ∙ j .0) ∙ write-missed columns st (a .address) (j .1) bs))
+    (sym (called-accepted columns st (burstWrite (a .address) bs) [] (burst-write-refusal st (a .address) bs ∙ j .0) ∙ write-missed columns st (a .address) (j .1) bs))
 
 returns-3 : tie.Need-returns-3
 returns-3 c =
@@ -50,7 +50,7 @@ returns-3 c =
     let end = lastDoubleword (a .address) in
     let j = judged-as st end _ (c .before .before .before .before .before .before .before .before .judge-burst .result) _ (rw (c .before .before .before .before .before .before .before .before .before .before .before .last-doubleword .ensures) at (c .before .before .before .before .before .before .before .before .before .locate .ensures)) (c .before .before .before .before .before .before .before .judge .ensures) (c .before .before .before .before .before .judged2 .given .1) (c .before .before .before .before .before .before .before .before .judge-burst .ensures) in
     let bs = a .bytes .now in
-    c .before .before .write-beats .ensures (st .registers) (j .1) ∙ sym (burst-write-done columns st (a .address) bs (burst-write-refusal st (a .address) bs ∙ j .0))
+    c .before .before .write-beats .ensures (st .registers) (j .1) ∙ sym (called-accepted columns st (burstWrite (a .address) bs) [] (burst-write-refusal st (a .address) bs ∙ j .0))
 
 pub burst-write-in-place-spec : {M : Type 1} → statement M
 burst-write-in-place-spec =

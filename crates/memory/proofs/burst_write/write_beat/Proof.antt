@@ -1,4 +1,3 @@
-use Rattle.ecc.specs.Columns.{columns}
 use Rattle.ecc.proofs.ColumnLaws.{own-columns}
 use Rattle.calls.specs.Calls.{beatAddress}
 use Rattle.cache_line.specs.CodeLine.{cellInLine}
@@ -17,7 +16,7 @@ returns : tie.Need-returns
 returns c =
     let a = c .before .before .before .before .before .before .before .before .args in
     let at = beatAddress (a .address) (a .i) in
-    rw (c .before .before .store-if .ensures, own-columns, c .before .before .before .before .before .cell-in-line .ensures, c .before .before .before .before .before .before .beat-address .ensures) (whole-write columns (a .cells .now) (cellInLine at (a .last)) at (a .doubleword))
+    rw (c .before .before .store-if .ensures, own-columns, c .before .before .before .before .before .cell-in-line .ensures, c .before .before .before .before .before .before .beat-address .ensures) (whole-write (a .cells .now) (cellInLine at (a .last)) at (a .doubleword))
 
 pub write-beat-spec : {M : Type 1} → statement M
 write-beat-spec =

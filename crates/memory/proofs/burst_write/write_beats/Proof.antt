@@ -10,7 +10,8 @@ use Rattle.ecc.proofs.CellLaws.{lent-same}
 use Rattle.error_registers.specs.Errors.{reported}
 use Rattle.calls.specs.Calls.{beatAddress, beatBytes, writeIn, parts}
 use Rattle.memory.proofs.WholeLaws.{eight-taken}
-use Rattle.memory.proofs.BurstLaws.{access-done, four-done}
+use Rattle.memory.proofs.AccessLaws.{access-done}
+use Rattle.memory.proofs.BurstLaws.{four-done}
 use borrow.Author.Needs.{needs}
 use Rattle.memory.proofs.burst_write.write_beats.Statement.{statement}
 use Rattle.memory.proofs.burst_write.write_beats.Tie as tie

@@ -43,8 +43,9 @@ returns-3 c =
     let a = c .before .before .before .before .before .before .before .before .before .before .before .before .before .args in
     let st = state (recordOf (a .registers .now)) (a .cells .now) in
     let j = judged-as st (a .address) _ (c .before .before .before .before .before .before .before .before .before .judge-bit .result) _ (c .before .before .before .before .before .before .before .before .before .before .locate .ensures) (c .before .before .before .before .before .before .before .before .judge .ensures) (c .before .before .before .before .before .before .judged2 .given .1) (c .before .before .before .before .before .before .before .before .before .judge-bit .ensures) in
+    let fits = bit-fits (a .bit) (judged-arguments st (a .address) (byBit (a .bit)) (j .0)) in
     let does = c .before .before .before .flip-cell .ensures columns in
-    simp (c .answer .ensures) (sym (called-done st (flip (a .address) (a .bit)) (flipIn (a .address) (a .bit)) (single-parts (flipIn (a .address) (a .bit))) columns [] (flip-refusal st (a .address) (a .bit) ∙ rw (j .0, j .1)) _ _ _ _ _ (j .1) does (sym (ap (λ (g : Got × List ℕ). reported (g .0 .kind) (a .address) (st .registers)) does ∙ flip-keeps-registers columns (st .registers) (st .cells) (a .address) (a .bit) _))))
+    simp (c .answer .ensures) (sym (called-done st (flip (a .address) (a .bit)) (flipIn (a .address) (a .bit)) (single-parts (flipIn (a .address) (a .bit)) fits) columns [] (flip-refusal st (a .address) (a .bit) ∙ rw (j .0, j .1)) _ _ _ _ _ (j .1) does (sym (ap (λ (g : Got × List ℕ). reported (g .0 .kind) (a .address) (st .registers)) does ∙ flip-keeps-registers columns (st .registers) (st .cells) (a .address) (a .bit) _))))
 
 pub flip-in-place-spec : {M : Type 1} → statement M
 flip-in-place-spec =

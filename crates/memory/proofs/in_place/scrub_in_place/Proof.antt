@@ -36,14 +36,14 @@ returns-2 c =
     let a = c .before .before .before .before .before .before .before .before .args in
     let st = state (recordOf (a .registers .now)) (a .cells .now) in
     let j = judged-as st (a .address) _ Accepted _ (c .before .before .before .before .before .locate .ensures) (c .before .before .before .before .judge .ensures) (c .before .before .enum-told .given .1) refl in
-    simp (c .report .ensures .0) (sym (called-done st (scrub (a .address)) (scrubIn (a .address)) (single-parts (scrubIn (a .address))) columns [] (scrub-refusal st (a .address) ∙ j .0) _ _ _ _ _ (j .1) refl (c .report .ensures .1)))
+    simp (c .report .ensures .0) (sym (called-done st (scrub (a .address)) (scrubIn (a .address)) (single-parts (scrubIn (a .address)) tt) columns [] (scrub-refusal st (a .address) ∙ j .0) _ _ _ _ _ (j .1) refl (c .report .ensures .1)))
 
 returns-3 : tie.Need-returns-3
 returns-3 c =
     let a = c .before .before .before .before .before .before .before .before .before .before .before .before .before .before .args in
     let st = state (recordOf (a .registers .now)) (a .cells .now) in
     let j = judged-as st (a .address) _ Accepted _ (c .before .before .before .before .before .before .before .before .before .before .before .locate .ensures) (c .before .before .before .before .before .before .before .before .before .before .judge .ensures) (c .before .before .before .before .before .before .before .before .judged2 .given .1) refl in
-    simp (c .report2 .ensures .0) (sym (called-done st (scrub (a .address)) (scrubIn (a .address)) (single-parts (scrubIn (a .address))) columns [] (scrub-refusal st (a .address) ∙ j .0) _ _ _ _ _ (j .1) (rw own-columns at (c .before .before .before .before .scrub-cell .ensures)) (c .report2 .ensures .1)))
+    simp (c .report2 .ensures .0) (sym (called-done st (scrub (a .address)) (scrubIn (a .address)) (single-parts (scrubIn (a .address)) tt) columns [] (scrub-refusal st (a .address) ∙ j .0) _ _ _ _ _ (j .1) (rw own-columns at (c .before .before .before .before .scrub-cell .ensures)) (c .report2 .ensures .1)))
 
 pub scrub-in-place-spec : {M : Type 1} → statement M
 scrub-in-place-spec =

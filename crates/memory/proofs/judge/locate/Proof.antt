@@ -1,9 +1,3 @@
-use mathlib.Core.Path.{sym, ap, _∙_}
-use mathlib.Core.Option.{Option}
-use Prim.Native.Nat.{ℕ}
-use Rattle.refusals.specs.Paper.{Outcome}
-use Rattle.banks.specs.Map.{paperTarget}
-use Rattle.memory.specs.CodeJudged.{located}
 use borrow.Author.Needs.{needs}
 use Rattle.memory.proofs.judge.locate.Statement.{statement}
 use Rattle.memory.proofs.judge.locate.Tie as tie

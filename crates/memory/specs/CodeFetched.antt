@@ -1,0 +1,38 @@
+-- What the code reads of a whole doubleword. Only contracts of private functions use it.
+use Prim.Native.Nat.{ℕ}
+use mathlib.Core.Path.{_≡_}
+use mathlib.Core.Bool.{Bool, true, false}
+use mathlib.Core.List.{List}
+use mathlib.Core.Option.{Option, none, some}
+use lib.ListN.{replicate}
+use Rattle.ecc.specs.Columns.{columns}
+use Rattle.ecc.specs.CheckCode.{syndromeOf}
+use Rattle.ecc.specs.Cell.{loadOf}
+use Rattle.ecc.specs.Doubleword.{bytesOfNumber}
+use Rattle.ecc.specs.Lending.{cellAt, isLent}
+use Rattle.calls.specs.declared.Kind.{Kind}
+use Rattle.calls.specs.declared.Kind.the-variants.{Clean, Corrected, Uncorrectable, Stored, NoBank, Flipped}
+use Rattle.machine.specs.Cells.{answerOf}
+use Rattle.memory.specs.declared.fetch.Fetched.{Fetched}
+
+-- the cells k and l are lent, and their syndromes are 0
+pub record CleanPair (cells : List ℕ) (k l : ℕ) : Type 0 where
+  pub first-lent : isLent cells k ≡ true
+  pub first-clean : syndromeOf columns (cellAt cells k) ≡ 0
+  pub second-lent : isLent cells l ≡ true
+  pub second-clean : syndromeOf columns (cellAt cells l) ≡ 0
+
+-- the answer and the doubleword of a target: those of its cell; without a bank, "no bank" and eight bytes FF
+abbrev pub Fetches : Option ℕ → List ℕ → Fetched → Type 0
+Fetches none cells f = (f .kind ≡ NoBank) × (bytesOfNumber (f .doubleword) ≡ replicate 8 0xFF)
+Fetches (some k) cells f =
+    (f .kind ≡ answerOf (loadOf columns (cellAt cells k) .reading)) × (bytesOfNumber (f .doubleword) ≡ loadOf columns (cellAt cells k) .bytes)
+
+-- MEM-5, MEM-6, MEM-9: a short write to such a doubleword stores it again
+abbrev pub isRight : Kind → Bool
+isRight Clean = true
+isRight Corrected = true
+isRight Uncorrectable = false
+isRight Stored = false
+isRight NoBank = false
+isRight Flipped = false
