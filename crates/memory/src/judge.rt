@@ -1,4 +1,5 @@
-// Whether a call is refused, and which cell its access goes to; of a split, the cell of its first access, and of a burst, the last one of its line. Both are found before anything is changed.
+// Whether a call is refused, and which cell its access goes to; of a split, the cell of its first access, and of a burst, the last one of its line.
+// Both are found before anything is changed.
 ghost use mathlib.Core.Path.{_≡_};
 ghost use mathlib.Core.Bool.{false};
 ghost use Prim.Native.Nat.{ℕ, _^_, _<_};

@@ -4,8 +4,6 @@ ghost use mathlib.Core.List.{[], _∷_};
 ghost use Prim.Native.Nat.{_-_, _*_, _/_, _%_, _^_, _≤_};
 ghost use lib.Dec.{ltb};
 ghost use Rattle.refusals.specs.Paper.{given, _gives_};
-ghost use Rattle.refusals.specs.declared.Refusal.the-variants.{NotLent};
-ghost use Rattle.refusals.specs.declared.Verdict.the-variants.{Accepted, Refused};
 ghost use Rattle.refusals.specs.declared.Verdict.the-variants.{Accepted};
 ghost use Rattle.registers.specs.Record.{recordOf};
 ghost use Rattle.banks.specs.Setup.{setupOf};

@@ -1,6 +1,5 @@
 use borrow.Author.Tests.{ne-eqb}
 use Rattle.memory.proofs.SplitLaws.{lent-judged}
-use borrow.Author.Needs.{needs}
 use Rattle.memory.proofs.two_parts.judge_cells.Statement.{statement}
 use Rattle.memory.proofs.two_parts.judge_cells.Tie as tie
 
