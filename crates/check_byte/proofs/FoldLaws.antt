@@ -82,15 +82,15 @@ module _ (f g : ℕ → ℕ) (lf : Linear f) (lg : Linear g) (s n : ℕ) where
 masks-linear : (k l : ℕ) → Linear (λ x. masked x (rotated x 32) k l)
 masks-linear = masked-linear (λ x. x) (λ x. rotated x 32) linear-self (rotated-linear (λ x. x) linear-self 32)
 
-pair-linear : (k l m n : ℕ) → Linear (λ x. folded (masked x (rotated x 32) k l) (masked x (rotated x 32) m n) 0x0000ffff0000ffff 16)
+pair-linear : (k l m n : ℕ) → Linear (λ x. folded (masked x (rotated x 32) k l) (masked x (rotated x 32) m n) 0xffff0000ffff0000 16)
 pair-linear k l m n =
-    folded-linear (λ x. masked x (rotated x 32) k l) (λ x. masked x (rotated x 32) m n) (masks-linear k l) (masks-linear m n) 0x0000ffff0000ffff 16
+    folded-linear (λ x. masked x (rotated x 32) k l) (λ x. masked x (rotated x 32) m n) (masks-linear k l) (masks-linear m n) 0xffff0000ffff0000 16
 
 folded-masks-linear : Linear foldedMasks
 unfolding foldedMasks
 folded-masks-linear =
-    folded-linear _ _ (pair-linear 0xef200020fff059ed 0x488d000f0342911a 0xfb3f44e03c26c0b6 0x220f3400bd08788c)
-    (pair-linear 0xf71007e003f0aada 0x914a3f007cc12215 0x00ffff1fc411c771 0x00000000de848843) 0x00ff00ff00ff00ff 8
+    folded-linear _ _ (pair-linear 0x00ffff1fc411c771 0x00000000de848843 0xf71007e003f0aada 0x914a3f007cc12215)
+    (pair-linear 0xfb3f44e03c26c0b6 0x220f3400bd08788c 0xef200020fff059ed 0x488d000f0342911a) 0xff00ff00ff00ff00 8
 
 thrice-linear : (f : ℕ → ℕ) → Linear f → (i j k : ℕ) → Linear (λ x. overShifted (overShifted (overShifted (f x) i) j) k)
 thrice-linear f lf i j k =

@@ -25,11 +25,11 @@ overShifted x n = bitXor x (x / 2 ^ n)
 unfoldable pub foldedMasks : ℕ → ℕ
 foldedMasks x =
     let y = rotated x 32 in
-    let a = masked x y 0xef200020fff059ed 0x488d000f0342911a in
-    let b = masked x y 0xfb3f44e03c26c0b6 0x220f3400bd08788c in
-    let c = masked x y 0xf71007e003f0aada 0x914a3f007cc12215 in
-    let d = masked x y 0x00ffff1fc411c771 0x00000000de848843 in
-    folded (folded a b 0x0000ffff0000ffff 16) (folded c d 0x0000ffff0000ffff 16) 0x00ff00ff00ff00ff 8
+    let a = masked x y 0x00ffff1fc411c771 0x00000000de848843 in
+    let b = masked x y 0xf71007e003f0aada 0x914a3f007cc12215 in
+    let c = masked x y 0xfb3f44e03c26c0b6 0x220f3400bd08788c in
+    let d = masked x y 0xef200020fff059ed 0x488d000f0342911a in
+    folded (folded a b 0xffff0000ffff0000 16) (folded c d 0xffff0000ffff0000 16) 0xff00ff00ff00ff00 8
 
 -- the parity of each byte, as its lowest bit
 unfoldable pub parities : ℕ → ℕ

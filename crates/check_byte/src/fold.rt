@@ -34,18 +34,19 @@ fn over_shifted(x: u64, n: u64) -> u64
     x ^ x >> n
 }
 
-// A number whose byte j has the parity of check bit j.
+// A number whose byte j has the parity of check bit j. The upper halves are selected: of the lower ones the compiler would see that a rotation takes
+// bits of two numbers, and make a slow shift of both.
 fn folded_masks(x: u64) -> u64
     ensures { λ r. ⌜ r ≡ foldedMasks x ⌝ }
 {
     let y = rotated(x, 32);
-    let a = masked(x, y, 0xef200020fff059ed, 0x488d000f0342911a);
-    let b = masked(x, y, 0xfb3f44e03c26c0b6, 0x220f3400bd08788c);
-    let c = masked(x, y, 0xf71007e003f0aada, 0x914a3f007cc12215);
-    let d = masked(x, y, 0x00ffff1fc411c771, 0x00000000de848843);
-    let ab = folded(a, b, 0x0000ffff0000ffff, 16);
-    let cd = folded(c, d, 0x0000ffff0000ffff, 16);
-    folded(ab, cd, 0x00ff00ff00ff00ff, 8)
+    let a = masked(x, y, 0x00ffff1fc411c771, 0x00000000de848843);
+    let b = masked(x, y, 0xf71007e003f0aada, 0x914a3f007cc12215);
+    let c = masked(x, y, 0xfb3f44e03c26c0b6, 0x220f3400bd08788c);
+    let d = masked(x, y, 0xef200020fff059ed, 0x488d000f0342911a);
+    let ab = folded(a, b, 0xffff0000ffff0000, 16);
+    let cd = folded(c, d, 0xffff0000ffff0000, 16);
+    folded(ab, cd, 0xff00ff00ff00ff00, 8)
 }
 
 // The parity of each byte, as its lowest bit.
