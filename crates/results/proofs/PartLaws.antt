@@ -8,7 +8,7 @@ use lib.ListN.{length, getD, take}
 use lib.Seq.{take-all, length-take-le}
 use Rattle.calls.specs.declared.Part.{Part}
 use Rattle.calls.specs.Answers.{kindsIn}
-use Rattle.results.specs.Results.{kindCode, partAt}
+use Rattle.results.specs.Results.{kindCode, partAt, answerNumbers}
 
 pub part-within : (ps : List Part) (n i x : ℕ) (d : Part) → i < n → i < length ps → x ≡ kindCode (getD ps i d .kind) → x ≡ partAt (kindsIn (take n ps)) i
 part-within [] n i x d h k e = absurd (not-suc-le-zero k)
@@ -32,3 +32,15 @@ few ps n h = sym (kinds-length (take n ps) ∙ length-take-le n ps h)
 
 pub many : (ps : List Part) (n : ℕ) → length ps ≤ n → length ps ≡ length (kindsIn (take n ps))
 many ps n h = sym (kinds-length (take n ps) ∙ ap length (take-all n ps h))
+
+-- ---- the numbers of a few parts
+
+pub one-part : (ps : List Part) → 1 ≤ length ps → answerNumbers (kindsIn (take 1 ps)) ≡ 1 ∷ partAt (kindsIn (take 1 ps)) 0 ∷ 0 ∷ 0 ∷ 0 ∷ []
+one-part [] h = absurd (not-suc-le-zero h)
+one-part (p ∷ ps) h = refl
+
+pub two-parts : (ps : List Part) → 2 ≤ length ps
+    → answerNumbers (kindsIn (take 2 ps)) ≡ 2 ∷ partAt (kindsIn (take 2 ps)) 0 ∷ partAt (kindsIn (take 2 ps)) 1 ∷ 0 ∷ 0 ∷ []
+two-parts [] h = absurd (not-suc-le-zero h)
+two-parts (p ∷ []) h = absurd (omega arith)
+two-parts (p ∷ q ∷ ps) h = refl
