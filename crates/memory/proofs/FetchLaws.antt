@@ -5,11 +5,10 @@ use mathlib.Core.Bool.{true, false, cond, not, _&&_}
 use mathlib.Core.Option.{Option, none, some}
 use mathlib.Core.List.{List, [], _∷_}
 use native.Mathlib.Omega.{arith}
-use borrow.Author.Tests.{leb-true, eqb-true, ne-eqb}
-use lib.Dec.{leb, eqb}
+use borrow.Author.Tests.{eqb-true, ne-eqb}
+use lib.Dec.{eqb}
 use lib.ListN.{length, take, drop}
 use Rattle.basics.proofs.Bools.{and-left, and-right}
-use Rattle.basics.proofs.RangeLaws.{byCases, contra}
 use Rattle.registers.specs.declared.Registers.{Registers}
 use Rattle.banks.specs.Setup.{setupOf}
 use Rattle.banks.specs.Map.{cellOf}
@@ -30,7 +29,7 @@ use Rattle.machine.specs.Cells.{answerOf, merge, readCell, mergeCell, writeCell
 use Rattle.calls.proofs.SplitLaws.{room-ends, next-aligned}
 use Rattle.machine.specs.Calls.{onTarget, accessAt, accesses}
 use Rattle.memory.specs.declared.fetch.Fetched.{Fetched}
-use Rattle.memory.specs.CodeJudged.{targetOf, isLost}
+use Rattle.memory.specs.CodeReading.{isLost}
 use Rattle.memory.specs.CodeFetched.{CleanPair, Fetches, isRight}
 use Rattle.memory.proofs.AccessLaws.{two-done}
 use Rattle.memory.proofs.TargetLaws.{put-right, same-taken}
@@ -41,10 +40,6 @@ right-answer (reading.Corrected b) = refl
 right-answer reading.Uncorrectable = refl
 
 module _ (cells : List ℕ) (f : Fetched) where
-  -- what is right has a cell
-  pub right-above : (x : ℕ) → Fetches (targetOf x) cells f → isRight (f .kind) ≡ true → 3 ≤ x
-  right-above x h right = byCases (leb 3 x) (leb-true 3 x) (λ t. contra right (ap isRight ((rw t at h) .0)))
-
   module _ (r r′ : Registers) (a : ℕ) (reports : r′ ≡ reported (f .kind) a r) where
     pub fetched-read : (o : Option ℕ) → Fetches o cells f → (n : ℕ) → a % 8 + n ≤ 8
         → _≡_ {A = Got × State} (got (f .kind) (take n (drop (a % 8) (bytesOfNumber (f .doubleword)))), state r′ cells) (accessAt columns o (state r cells) (readIn a n))

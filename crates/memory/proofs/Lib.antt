@@ -1,6 +1,5 @@
 pub mod CallLaws
 pub mod AccessLaws
-pub mod JudgeLaws
 pub mod TargetLaws
 pub mod LineLaws
 pub mod BurstLaws

@@ -11,7 +11,7 @@ use Rattle.ecc.specs.Doubleword.{bytesOfNumber}
 use Rattle.ecc.specs.Lending.{putCell}
 use Rattle.machine.specs.Cells.{unlessLost, ifCorrected}
 use Rattle.machine.specs.Calls.{putAt}
-use Rattle.memory.specs.CodeJudged.{isLost, isCorrected}
+use Rattle.memory.specs.CodeReading.{isLost, isCorrected}
 
 pub put-right : (rd : Reading) (cell cells : List ℕ) (k : ℕ) → putAt (unlessLost rd cell) cells k ≡ cond (not (isLost rd)) (putCell cells k cell) cells
 put-right reading.Clean cell cells k = refl

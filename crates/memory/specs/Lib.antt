@@ -1,2 +1,2 @@
-pub mod CodeJudged
+pub mod CodeReading
 pub mod CodeFetched

@@ -15,7 +15,7 @@ ghost use Rattle.ecc.specs.Lending.{cellAt, isLent, putCell};
 ghost use Rattle.calls.specs.Calls.{readIn, writeIn, flipIn, scrubIn, Got, got};
 ghost use Rattle.machine.specs.Cells.{answerOf};
 ghost use Rattle.machine.specs.Calls.{onTarget};
-ghost use Rattle.memory.specs.CodeJudged.{isLost, isCorrected};
+ghost use Rattle.memory.specs.CodeReading.{isLost, isCorrected};
 use crate::bytes::copy_out;
 use crate::bytes::joined;
 use crate::bytes::merged;

@@ -29,9 +29,6 @@ use crate::bytes::copy_line;
 use crate::fetch::Fetched;
 use crate::fetch::fetch;
 use crate::in_place::refuse;
-use crate::judge::Judged;
-use crate::judge::judge;
-use crate::judge::locate;
 use crate::lent::doubleword_at;
 use cache_line::beat_address;
 use cache_line::cell_in_line;
@@ -39,7 +36,8 @@ use cache_line::judge_burst;
 use cache_line::last_doubleword;
 use calls::Answer;
 use calls::Kind;
-use registers::Registers;
+use targets::Judged;
+use targets::judge;
 
 // Beat i of a burst read at `address`; `last` is the last cell of the line.
 fn read_beat(registers: &mut [u8; 256], cells: &[u8], last: usize, address: u32, i: u32) -> Fetched
@@ -140,8 +138,12 @@ pub fn burst_read_in_place(
     ensures { λ x. ⌜ leaves x (state (recordOf (now (registers .exit))) (now (cells .entry))) (now (buffer .exit)) ≡ burstReadCall columns (state (recordOf (now (registers .entry))) (now (cells .entry))) address (now (buffer .entry)) ⌝ }
 {
     let end = last_doubleword(address);
-    let x = locate(Registers { bytes: *registers }, cells.len(), end);
-    let judged = judge(x, judge_burst(address, buffer.len()));
+    let judged = judge(
+        registers,
+        cells.len(),
+        end,
+        judge_burst(address, buffer.len()),
+    );
     match judged {
         Judged::Refused(x) => refuse(x),
         Judged::NoBank => {

@@ -24,16 +24,14 @@ use crate::access::NO_COLUMNS;
 use crate::beats::answer;
 use crate::beats::miss_beats;
 use crate::in_place::refuse;
-use crate::judge::Judged;
-use crate::judge::judge;
-use crate::judge::locate;
 use cache_line::beat_address;
 use cache_line::cell_in_line;
 use cache_line::judge_burst;
 use cache_line::last_doubleword;
 use calls::Answer;
 use calls::Kind;
-use registers::Registers;
+use targets::Judged;
+use targets::judge;
 
 // Beat i of a burst write: a write of eight bytes, which does not look at the old cell and is not reported (ERR-8).
 fn write_beat(cells: &mut [u8], last: usize, address: u32, i: u32, doubleword: u64)
@@ -68,8 +66,12 @@ pub fn burst_write_in_place(
     ensures { λ x. ⌜ leaves x (state (recordOf (now (registers .exit))) (now (cells .exit))) [] ≡ burstWriteCall columns (state (recordOf (now (registers .entry))) (now (cells .entry))) address (now (bytes .entry)) ⌝ }
 {
     let end = last_doubleword(address);
-    let x = locate(Registers { bytes: *registers }, cells.len(), end);
-    let judged = judge(x, judge_burst(address, bytes.len()));
+    let judged = judge(
+        registers,
+        cells.len(),
+        end,
+        judge_burst(address, bytes.len()),
+    );
     match judged {
         Judged::Refused(x) => refuse(x),
         Judged::NoBank => miss_beats(registers, address),

@@ -8,16 +8,16 @@ ghost use Rattle.ecc.specs.Columns.{columns};
 ghost use Rattle.ecc.specs.CheckCode.{syndromeOf};
 ghost use Rattle.ecc.specs.Lending.{cellAt, isLent};
 ghost use Rattle.error_registers.specs.Errors.{reported};
-ghost use Rattle.memory.specs.CodeJudged.{targetOf, LentAt};
+ghost use Rattle.targets.specs.CodeTargets.{targetOf, LentAt};
 ghost use Rattle.memory.specs.CodeFetched.{Fetches, isRight};
 use crate::access;
 use crate::access::LENT;
 use crate::access::NO_COLUMNS;
 use crate::bytes::ONES;
-use crate::judge::FIRST_CELL;
 use crate::lent::doubleword_at;
 use calls::Kind;
 use error_registers::report;
+use targets::Selected;
 
 // What a read answers, and the doubleword out of which it takes its bytes.
 pub struct Fetched {
@@ -62,22 +62,30 @@ pub(crate) fn fetch(
     fetch_wrong(registers, cells, k, s, address)
 }
 
-// Reads what a number that `locate` returned stands for: a cell, or no bank.
-pub(crate) fn fetch_at(registers: &mut [u8; 256], cells: &[u8], x: usize, address: u32) -> Fetched
+// Reads what an access goes to: a cell, or no bank.
+pub(crate) fn fetch_at(
+    registers: &mut [u8; 256],
+    cells: &[u8],
+    x: Selected,
+    address: u32,
+) -> Fetched
     requires { ⌜ LentAt (targetOf x) (now cells) ⌝ }
     ensures { λ f. ⌜ Fetches (targetOf x) (now (cells .entry)) f ⌝ }
     ensures { λ f. ⌜ recordOf (now (registers .exit)) ≡ reported (f .kind) address (recordOf (now (registers .entry))) ⌝ }
 {
-    if x < FIRST_CELL {
-        report(registers, Kind::NoBank, address);
-        return Fetched {
-            kind: Kind::NoBank,
-            doubleword: ONES,
-        };
+    match x {
+        Selected::NoBank => {
+            report(registers, Kind::NoBank, address);
+            Fetched {
+                kind: Kind::NoBank,
+                doubleword: ONES,
+            }
+        }
+        Selected::Cell(k) => {
+            let s = access::syndrome_at(LENT, &NO_COLUMNS, cells, k);
+            fetch(registers, cells, k, s, address)
+        }
     }
-    let k = x - FIRST_CELL;
-    let s = access::syndrome_at(LENT, &NO_COLUMNS, cells, k);
-    fetch(registers, cells, k, s, address)
 }
 
 // What answered so is right, so that a short write stores it again.

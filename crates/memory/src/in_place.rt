@@ -12,13 +12,10 @@ ghost use Rattle.machine.specs.Calls.{readCall, writeCall, flipCall, scrubCall}
 use crate::access;
 use crate::access::LENT;
 use crate::access::NO_COLUMNS;
+use crate::arguments::judge_bit;
+use crate::arguments::judge_inside;
 use crate::bytes::ONES;
 use crate::bytes::copy_out;
-use crate::judge::Judged;
-use crate::judge::judge;
-use crate::judge::judge_bit;
-use crate::judge::judge_inside;
-use crate::judge::locate;
 use crate::split_read::read_split;
 use crate::split_write::write_split;
 use calls::Answer;
@@ -26,8 +23,9 @@ use calls::Kind;
 use calls::Part;
 use refusals::Refusal;
 use refusals::Verdict;
-use registers::Registers;
 use split::crosses_end;
+use targets::Judged;
+use targets::judge;
 
 pub(crate) fn refuse(x: Refusal) -> Answer
     ensures { λ a. ⌜ paperAnswer a ≡ refused (paper x) ⌝ }
@@ -68,11 +66,10 @@ pub fn read_in_place(
 ) -> Answer
     ensures { λ x. ⌜ leaves x (state (recordOf (now (registers .exit))) (now (cells .entry))) (now (buffer .exit)) ≡ readCall columns (state (recordOf (now (registers .entry))) (now (cells .entry))) address (now (buffer .entry)) ⌝ }
 {
-    let x = locate(Registers { bytes: *registers }, cells.len(), address);
     if crosses_end(address, buffer.len()) {
-        return read_split(registers, cells, x, address, buffer);
+        return read_split(registers, cells, address, buffer);
     }
-    let judged = judge(x, judge_inside(buffer.len()));
+    let judged = judge(registers, cells.len(), address, judge_inside(buffer.len()));
     match judged {
         Judged::Refused(x) => refuse(x),
         Judged::NoBank => {
@@ -94,11 +91,10 @@ pub fn write_in_place(
 ) -> Answer
     ensures { λ x. ⌜ leaves x (state (recordOf (now (registers .exit))) (now (cells .exit))) [] ≡ writeCall columns (state (recordOf (now (registers .entry))) (now (cells .entry))) address (now (bytes .entry)) ⌝ }
 {
-    let x = locate(Registers { bytes: *registers }, cells.len(), address);
     if crosses_end(address, bytes.len()) {
-        return write_split(registers, cells, x, address, bytes);
+        return write_split(registers, cells, address, bytes);
     }
-    let judged = judge(x, judge_inside(bytes.len()));
+    let judged = judge(registers, cells.len(), address, judge_inside(bytes.len()));
     match judged {
         Judged::Refused(x) => refuse(x),
         Judged::NoBank => report(registers, Kind::NoBank, address),
@@ -113,8 +109,7 @@ pub fn write_in_place(
 pub fn flip_in_place(registers: &[u8; 256], cells: &mut [u8], address: u32, bit: u32) -> Answer
     ensures { λ x. ⌜ leaves x (state (recordOf (now (registers .entry))) (now (cells .exit))) [] ≡ flipCall columns (state (recordOf (now (registers .entry))) (now (cells .entry))) address bit ⌝ }
 {
-    let x = locate(Registers { bytes: *registers }, cells.len(), address);
-    let judged = judge(x, judge_bit(bit));
+    let judged = judge(registers, cells.len(), address, judge_bit(bit));
     match judged {
         Judged::Refused(x) => refuse(x),
         Judged::NoBank => refuse(Refusal::FlipWithoutBank),
@@ -125,8 +120,7 @@ pub fn flip_in_place(registers: &[u8; 256], cells: &mut [u8], address: u32, bit:
 pub fn scrub_in_place(registers: &mut [u8; 256], cells: &mut [u8], address: u32) -> Answer
     ensures { λ x. ⌜ leaves x (state (recordOf (now (registers .exit))) (now (cells .exit))) [] ≡ scrubCall columns (state (recordOf (now (registers .entry))) (now (cells .entry))) address ⌝ }
 {
-    let x = locate(Registers { bytes: *registers }, cells.len(), address);
-    let judged = judge(x, Verdict::Accepted);
+    let judged = judge(registers, cells.len(), address, Verdict::Accepted);
     match judged {
         Judged::Refused(x) => refuse(x),
         Judged::NoBank => report(registers, Kind::NoBank, address),

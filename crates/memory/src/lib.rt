@@ -1,13 +1,13 @@
 // Memory calls over a record and cells that are lent: read, write, flip, scrub and bursts in place. A call is judged first; only then are its
 // accesses performed, and the answer of each reported to the error registers.
 mod access;
+mod arguments;
 mod beats;
 mod burst_read;
 mod burst_write;
 mod bytes;
 mod fetch;
 mod in_place;
-mod judge;
 mod lent;
 mod split_read;
 mod split_write;

@@ -2,22 +2,19 @@
 ghost use mathlib.Core.Path.{_≡_};
 ghost use mathlib.Core.Bool.{true};
 ghost use mathlib.Core.List.{[], _∷_, _++_};
-ghost use mathlib.Core.Option.{none};
-ghost use Prim.Native.Nat.{_+_, _-_, _%_, _≤_};
+ghost use mathlib.Core.Option.{none, some};
+ghost use Prim.Native.Nat.{_-_, _%_, _≤_};
 ghost use lib.ListN.{length, take, drop};
-ghost use Rattle.refusals.specs.Paper.{given, _gives_};
+ghost use Rattle.refusals.specs.Paper.{given};
 ghost use Rattle.registers.specs.declared.Registers.{Registers};
 ghost use Rattle.registers.specs.Record.{recordOf};
-ghost use Rattle.banks.specs.Setup.{setupOf};
-ghost use Rattle.banks.specs.Judge.{notReady};
-ghost use Rattle.banks.specs.Map.{cellOf};
 ghost use Rattle.ecc.specs.Columns.{columns};
 ghost use Rattle.ecc.specs.Doubleword.{bytesOfNumber};
 ghost use Rattle.calls.specs.Calls.{read, crosses, room, parts};
 ghost use Rattle.calls.specs.State.{state};
 ghost use Rattle.calls.specs.Answers.{paperAnswer, leaves, effectOf};
 ghost use Rattle.machine.specs.Calls.{performed, readCall};
-ghost use Rattle.memory.specs.CodeJudged.{located, Placed};
+ghost use Rattle.targets.specs.CodeTargets.{targetOf, Placed};
 ghost use Rattle.memory.specs.CodeFetched.{CleanPair};
 use crate::access::LENT;
 use crate::access::NO_COLUMNS;
@@ -27,16 +24,15 @@ use crate::fetch::Fetched;
 use crate::fetch::fetch;
 use crate::fetch::fetch_at;
 use crate::in_place::refuse;
-use crate::judge::FIRST_CELL;
 use crate::lent::doubleword_at;
 use crate::two_parts::answer;
-use crate::two_parts::judge_both;
-use crate::two_parts::locate_after;
 use calls::Answer;
 use calls::Kind;
-use refusals::Verdict;
 use split::judge_count;
 use split::next_doubleword;
+use targets::JudgedSplit;
+use targets::Selected;
+use targets::judge_split;
 
 // What two reads give together.
 fn deliver(a: Fetched, b: Fetched, address: u32, buffer: &mut [u8]) -> Answer
@@ -54,12 +50,12 @@ fn deliver(a: Fetched, b: Fetched, address: u32, buffer: &mut [u8]) -> Answer
 fn read_parts(
     registers: &mut [u8; 256],
     cells: &[u8],
-    first: usize,
-    second: usize,
+    first: Selected,
+    second: Selected,
     address: u32,
     buffer: &mut [u8],
 ) -> Answer
-    requires { ⌜ Placed (state (recordOf (now registers)) (now cells)) address first second × (crosses address (length (now buffer)) ≡ true) × (length (now buffer) ≤ 8) ⌝ }
+    requires { ⌜ Placed (state (recordOf (now registers)) (now cells)) address (targetOf first) (targetOf second) × (crosses address (length (now buffer)) ≡ true) × (length (now buffer) ≤ 8) ⌝ }
     ensures { λ x. ⌜ leaves x (state (recordOf (now (registers .exit))) (now (cells .entry))) (now (buffer .exit)) ≡ effectOf (performed columns none (state (recordOf (now (registers .entry))) (now (cells .entry))) (parts (read address (length (now (buffer .entry)))))) [] ⌝ }
 {
     let a = fetch_at(registers, cells, first, address);
@@ -71,7 +67,7 @@ fn read_parts(
 // A read of two clean cells, k and l: none of its answers is reported (ERR-8).
 fn copy_both(cells: &[u8], k: usize, l: usize, address: u32, buffer: &mut [u8]) -> Answer
     requires { ⌜ CleanPair (now cells) k l × (crosses address (length (now buffer)) ≡ true) × (length (now buffer) ≤ 8) ⌝ }
-    ensures { λ x. ⌜ ((r : Registers) → Placed (state r (now (cells .entry))) address (3 + k) (3 + l) → leaves x (state r (now (cells .entry))) (now (buffer .exit)) ≡ effectOf (performed columns none (state r (now (cells .entry))) (parts (read address (length (now (buffer .entry)))))) []) ⌝ }
+    ensures { λ x. ⌜ ((r : Registers) → Placed (state r (now (cells .entry))) address (some k) (some l) → leaves x (state r (now (cells .entry))) (now (buffer .exit)) ≡ effectOf (performed columns none (state r (now (cells .entry))) (parts (read address (length (now (buffer .entry)))))) []) ⌝ }
 {
     let a = doubleword_at(cells, k);
     let b = doubleword_at(cells, l);
@@ -89,7 +85,7 @@ fn read_cells(
     address: u32,
     buffer: &mut [u8],
 ) -> Answer
-    requires { ⌜ Placed (state (recordOf (now registers)) (now cells)) address (3 + k) (3 + l) × (crosses address (length (now buffer)) ≡ true) × (length (now buffer) ≤ 8) ⌝ }
+    requires { ⌜ Placed (state (recordOf (now registers)) (now cells)) address (some k) (some l) × (crosses address (length (now buffer)) ≡ true) × (length (now buffer) ≤ 8) ⌝ }
     ensures { λ x. ⌜ leaves x (state (recordOf (now (registers .exit))) (now (cells .entry))) (now (buffer .exit)) ≡ effectOf (performed columns none (state (recordOf (now (registers .entry))) (now (cells .entry))) (parts (read address (length (now (buffer .entry)))))) [] ⌝ }
 {
     let s = syndrome_at(LENT, &NO_COLUMNS, cells, k);
@@ -103,41 +99,20 @@ fn read_cells(
     deliver(a, b, address, buffer)
 }
 
-// The two accesses of a read, where neither is refused.
-fn read_both(
-    registers: &mut [u8; 256],
-    cells: &[u8],
-    first: usize,
-    second: usize,
-    address: u32,
-    buffer: &mut [u8],
-) -> Answer
-    requires { ⌜ Placed (state (recordOf (now registers)) (now cells)) address first second × (crosses address (length (now buffer)) ≡ true) × (length (now buffer) ≤ 8) ⌝ }
-    ensures { λ x. ⌜ leaves x (state (recordOf (now (registers .exit))) (now (cells .entry))) (now (buffer .exit)) ≡ effectOf (performed columns none (state (recordOf (now (registers .entry))) (now (cells .entry))) (parts (read address (length (now (buffer .entry)))))) [] ⌝ }
-{
-    if (first < FIRST_CELL) | (second < FIRST_CELL) {
-        return read_parts(registers, cells, first, second, address, buffer);
-    }
-    let k = first - FIRST_CELL;
-    let l = second - FIRST_CELL;
-    read_cells(registers, cells, k, l, address, buffer)
-}
-
-// `first` is what `locate` returned for the address.
 pub(crate) fn read_split(
     registers: &mut [u8; 256],
     cells: &[u8],
-    first: usize,
     address: u32,
     buffer: &mut [u8],
 ) -> Answer
-    requires { ⌜ (first ≡ located (notReady (setupOf (recordOf (now registers))) gives cellOf (setupOf (recordOf (now registers))) address) (length (now cells))) × (crosses address (length (now buffer)) ≡ true) ⌝ }
+    requires { ⌜ crosses address (length (now buffer)) ≡ true ⌝ }
     ensures { λ x. ⌜ leaves x (state (recordOf (now (registers .exit))) (now (cells .entry))) (now (buffer .exit)) ≡ readCall columns (state (recordOf (now (registers .entry))) (now (cells .entry))) address (now (buffer .entry)) ⌝ }
 {
-    let second = locate_after(registers, cells.len(), address, first);
-    let verdict = judge_both(first, second, judge_count(address, buffer.len()));
-    match verdict {
-        Verdict::Refused(x) => refuse(x),
-        Verdict::Accepted => read_both(registers, cells, first, second, address, buffer),
+    let verdict = judge_count(address, buffer.len());
+    let judged = judge_split(registers, cells.len(), address, verdict);
+    match judged {
+        JudgedSplit::Refused(x) => refuse(x),
+        JudgedSplit::Cells(k, l) => read_cells(registers, cells, k, l, address, buffer),
+        JudgedSplit::Parts(a, b) => read_parts(registers, cells, a, b, address, buffer),
     }
 }

@@ -9,7 +9,7 @@ use Rattle.calls.specs.Calls.{burstRead}
 use Rattle.calls.specs.Spans.{byBurst}
 use Rattle.calls.proofs.SpanLaws.{burst-fits}
 use Rattle.cache_line.specs.CodeLine.{lastDoubleword}
-use Rattle.memory.proofs.JudgeLaws.{judged-as}
+use Rattle.targets.proofs.JudgeLaws.{judged-as}
 use Rattle.memory.proofs.CallLaws.{called-refused, judged-arguments}
 use Rattle.memory.proofs.BurstLaws.{burst-read-refusal, burst-read-done, read-missed}
 use borrow.Author.Needs.{needs}
@@ -18,46 +18,46 @@ use Rattle.memory.proofs.burst_read.burst_read_in_place.Tie as tie
 
 copy-line-requires : tie.Need-copy-line-requires
 copy-line-requires c κs =
-    let a = c .before .before .before .before .before .before .before .before .before .before .args in
+    let a = c .before .before .before .before .before .before .before .before .before .args in
     let st = state (recordOf (a .registers .now)) (a .cells .now) in
     let end = lastDoubleword (a .address) in
-    let j = judged-as st end _ (c .before .before .before .before .judge-burst .result) _ (rw (c .before .before .before .before .before .before .before .last-doubleword .ensures) at (c .before .before .before .before .before .locate .ensures)) (c .before .before .before .judge .ensures) (c .before .enum-told .given .1) (c .before .before .before .before .judge-burst .ensures) in
+    let j = judged-as st end (c .before .before .before .before .judge-burst .result) _ (rw (c .before .before .before .before .before .before .last-doubleword .ensures) at (c .before .before .before .judge .ensures)) (c .before .enum-told .given .1) (c .before .before .before .before .judge-burst .ensures) in
     burst-fits (a .address) (length (a .buffer .now)) (judged-arguments st end (byBurst (a .address) (length (a .buffer .now))) (j .0)) .1
 
 read-beats-requires : tie.Need-read-beats-requires
 read-beats-requires c κs =
-    let a = c .before .before .before .before .before .before .before .before .before .before .before .before .args in
+    let a = c .before .before .before .before .before .before .before .before .before .before .before .args in
     let st = state (recordOf (a .registers .now)) (a .cells .now) in
     let end = lastDoubleword (a .address) in
-    let j = judged-as st end _ (c .before .before .before .before .before .before .judge-burst .result) _ (rw (c .before .before .before .before .before .before .before .before .before .last-doubleword .ensures) at (c .before .before .before .before .before .before .before .locate .ensures)) (c .before .before .before .before .before .judge .ensures) (c .before .before .before .judged2 .given .1) (c .before .before .before .before .before .before .judge-burst .ensures) in
+    let j = judged-as st end (c .before .before .before .before .before .before .judge-burst .result) _ (rw (c .before .before .before .before .before .before .before .before .last-doubleword .ensures) at (c .before .before .before .before .before .judge .ensures)) (c .before .before .before .judged2 .given .1) (c .before .before .before .before .before .before .judge-burst .ensures) in
     let h = burst-fits (a .address) (length (a .buffer .now)) (judged-arguments st end (byBurst (a .address) (length (a .buffer .now))) (j .0)) in
     (j .2, j .1, h .0, h .1)
 
 returns : tie.Need-returns
 returns c =
-    let a = c .before .before .before .before .before .before .before .before .before .before .before .args in
+    let a = c .before .before .before .before .before .before .before .before .before .before .args in
     let st = state (recordOf (a .registers .now)) (a .cells .now) in
     let end = lastDoubleword (a .address) in
-    let j = judged-as st end _ (c .before .before .before .before .before .judge-burst .result) _ (rw (c .before .before .before .before .before .before .before .before .last-doubleword .ensures) at (c .before .before .before .before .before .before .locate .ensures)) (c .before .before .before .before .judge .ensures) (c .before .before .judged .given .1) (c .before .before .before .before .before .judge-burst .ensures) in
+    let j = judged-as st end (c .before .before .before .before .before .judge-burst .result) _ (rw (c .before .before .before .before .before .before .before .last-doubleword .ensures) at (c .before .before .before .before .judge .ensures)) (c .before .before .judged .given .1) (c .before .before .before .before .before .judge-burst .ensures) in
     simp (c .refuse .ensures) (sym (called-refused columns st (burstRead (a .address) (length (a .buffer .now))) (a .buffer .now) (paper (c .before .before .judged .given .0 .0)) (burst-read-refusal st (a .address) (length (a .buffer .now)) ∙ j)))
 
 returns-2 : tie.Need-returns-2
 unfolding bytesOfNumber
 returns-2 c =
-    let a = c .before .before .before .before .before .before .before .before .before .before .before .before .before .before .before .args in
+    let a = c .before .before .before .before .before .before .before .before .before .before .before .before .before .before .args in
     let st = state (recordOf (a .registers .now)) (a .cells .now) in
     let end = lastDoubleword (a .address) in
-    let j = judged-as st end _ (c .before .before .before .before .before .before .before .before .before .judge-burst .result) _ (rw (c .before .before .before .before .before .before .before .before .before .before .before .before .last-doubleword .ensures) at (c .before .before .before .before .before .before .before .before .before .before .locate .ensures)) (c .before .before .before .before .before .before .before .before .judge .ensures) (c .before .before .before .before .before .before .enum-told .given .1) (c .before .before .before .before .before .before .before .before .before .judge-burst .ensures) in
+    let j = judged-as st end (c .before .before .before .before .before .before .before .before .before .judge-burst .result) _ (rw (c .before .before .before .before .before .before .before .before .before .before .before .last-doubleword .ensures) at (c .before .before .before .before .before .before .before .before .judge .ensures)) (c .before .before .before .before .before .before .enum-told .given .1) (c .before .before .before .before .before .before .before .before .before .judge-burst .ensures) in
     let n = length (a .buffer .now) in
     rw (c .miss-beats .ensures .0, c .miss-beats .ensures .1, c .before .before .before .before .copy-line .ensures)
     (sym (burst-read-done columns st (a .address) n (a .buffer .now) (burst-read-refusal st (a .address) n ∙ j .0) ∙ read-missed columns st (a .address) (j .1)))
 
 returns-3 : tie.Need-returns-3
 returns-3 c =
-    let a = c .before .before .before .before .before .before .before .before .before .before .before .before .before .before .before .args in
+    let a = c .before .before .before .before .before .before .before .before .before .before .before .before .before .before .args in
     let st = state (recordOf (a .registers .now)) (a .cells .now) in
     let end = lastDoubleword (a .address) in
-    let j = judged-as st end _ (c .before .before .before .before .before .before .before .before .before .judge-burst .result) _ (rw (c .before .before .before .before .before .before .before .before .before .before .before .before .last-doubleword .ensures) at (c .before .before .before .before .before .before .before .before .before .before .locate .ensures)) (c .before .before .before .before .before .before .before .before .judge .ensures) (c .before .before .before .before .before .before .judged2 .given .1) (c .before .before .before .before .before .before .before .before .before .judge-burst .ensures) in
+    let j = judged-as st end (c .before .before .before .before .before .before .before .before .before .judge-burst .result) _ (rw (c .before .before .before .before .before .before .before .before .before .before .before .last-doubleword .ensures) at (c .before .before .before .before .before .before .before .before .judge .ensures)) (c .before .before .before .before .before .before .judged2 .given .1) (c .before .before .before .before .before .before .before .before .before .judge-burst .ensures) in
     let n = length (a .buffer .now) in
     c .before .before .read-beats .ensures ∙ sym (burst-read-done columns st (a .address) n (a .buffer .now) (burst-read-refusal st (a .address) n ∙ j .0))
 
@@ -65,7 +65,6 @@ pub burst-read-in-place-spec : {M : Type 1} → statement M
 burst-read-in-place-spec =
     tie.close
     (tie.spec
-    (λ c κs. search needs)
     (λ c κs. search needs)
     (λ c κs. search needs)
     (λ c κs. search needs)

@@ -1,9 +1,9 @@
 use lib.ListN.{length}
 use Rattle.registers.specs.Record.{recordOf}
 use Rattle.machine.specs.Calls.{performed}
-use Rattle.memory.specs.CodeJudged.{targetOf}
+use Rattle.targets.specs.CodeTargets.{targetOf}
 use Rattle.memory.proofs.FetchLaws.{split-read}
-use Rattle.memory.proofs.SplitLaws.{next-exact}
+use Rattle.targets.proofs.SplitLaws.{next-exact}
 use borrow.Author.Needs.{needs}
 use Rattle.memory.proofs.split_read.read_parts.Statement.{statement}
 use Rattle.memory.proofs.split_read.read_parts.Tie as tie

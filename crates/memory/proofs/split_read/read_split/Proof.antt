@@ -1,40 +1,56 @@
-use mathlib.Core.Path.{sym, ap, _∙_}
+use mathlib.Core.Path.{sym, _∙_}
 use lib.ListN.{length}
-use Rattle.refusals.specs.Paper.{paper, paperVerdict}
+use Rattle.refusals.specs.Paper.{paper}
 use Rattle.registers.specs.Record.{recordOf}
 use Rattle.ecc.specs.Columns.{columns}
 use Rattle.calls.specs.Calls.{read}
 use Rattle.calls.specs.State.{state}
+use Rattle.targets.proofs.SplitLaws.{split-judged-as}
 use Rattle.memory.proofs.CallLaws.{called-refused, called-accepted}
-use Rattle.memory.proofs.SplitLaws.{read-split-refusal, split-judged, split-placed}
+use Rattle.memory.proofs.SplitLaws.{read-split-refusal}
 use borrow.Author.Needs.{needs}
 use Rattle.memory.proofs.split_read.read_split.Statement.{statement}
 use Rattle.memory.proofs.split_read.read_split.Tie as tie
 
-read-both-requires : tie.Need-read-both-requires
-read-both-requires c κs =
+read-cells-requires : tie.Need-read-cells-requires
+read-cells-requires c κs =
     let s = c .before .before .before .before .before .before .before .before .before .before in
     let a = s .args in
     let st = state (recordOf (a .registers .now)) (a .cells .now) in
-    let j = split-judged st (a .address) (length (a .buffer .now)) _ _ (s .pre .1) (s .pre .0) (c .before .before .before .before .before .before .locate-after .ensures) (c .before .before .before .before .before .judge-count .result) (c .before .before .before .before .judge-both .result) (c .before .before .before .before .before .judge-count .ensures) (c .before .before .before .before .judge-both .ensures) in
-    let p = split-placed st (a .address) (length (a .buffer .now)) _ _ (s .pre .1) (s .pre .0) (c .before .before .before .before .before .before .locate-after .ensures) (sym j ∙ ap paperVerdict (c .before .before .enum-told .given .1)) in
-    (p .0, s .pre .1, p .1)
+    let j = split-judged-as st (a .address) (length (a .buffer .now)) (s .pre) (c .before .before .before .before .before .before .before .judge-count .result) (c .before .before .before .before .before .judge-split .ensures) (c .before .before .before .judged2 .given .1) (c .before .before .before .before .before .before .before .judge-count .ensures) in
+    (j .1, s .pre, j .2)
+
+read-parts-requires : tie.Need-read-parts-requires
+read-parts-requires c κs =
+    let s = c .before .before .before .before .before .before .before .before .before .before in
+    let a = s .args in
+    let st = state (recordOf (a .registers .now)) (a .cells .now) in
+    let j = split-judged-as st (a .address) (length (a .buffer .now)) (s .pre) (c .before .before .before .before .before .before .before .judge-count .result) (c .before .before .before .before .before .judge-split .ensures) (c .before .before .before .judged3 .given .1) (c .before .before .before .before .before .before .before .judge-count .ensures) in
+    (j .1, s .pre, j .2)
 
 returns : tie.Need-returns
 returns c =
-    let s = c .before .before .before .before .before .before .before .before .before .before in
+    let s = c .before .before .before .before .before .before .before .before .before in
     let a = s .args in
     let st = state (recordOf (a .registers .now)) (a .cells .now) in
-    let j = split-judged st (a .address) (length (a .buffer .now)) _ _ (s .pre .1) (s .pre .0) (c .before .before .before .before .before .before .locate-after .ensures) (c .before .before .before .before .before .judge-count .result) (c .before .before .before .before .judge-both .result) (c .before .before .before .before .before .judge-count .ensures) (c .before .before .before .before .judge-both .ensures) in
-    simp (c .refuse .ensures) (sym (called-refused columns st (read (a .address) (length (a .buffer .now))) (a .buffer .now) (paper (c .before .before .verdict .given .0 .0)) (read-split-refusal st (a .address) (length (a .buffer .now)) (s .pre .1) ∙ sym j ∙ ap paperVerdict (c .before .before .verdict .given .1))))
+    let j = split-judged-as st (a .address) (length (a .buffer .now)) (s .pre) (c .before .before .before .before .before .before .judge-count .result) (c .before .before .before .before .judge-split .ensures) (c .before .before .judged .given .1) (c .before .before .before .before .before .before .judge-count .ensures) in
+    simp (c .refuse .ensures) (sym (called-refused columns st (read (a .address) (length (a .buffer .now))) (a .buffer .now) (paper (c .before .before .judged .given .0 .0)) (read-split-refusal st (a .address) (length (a .buffer .now)) (s .pre) ∙ j)))
 
 returns-2 : tie.Need-returns-2
 returns-2 c =
     let s = c .before .before .before .before .before .before .before .before .before .before .before .before .before in
     let a = s .args in
     let st = state (recordOf (a .registers .now)) (a .cells .now) in
-    let j = split-judged st (a .address) (length (a .buffer .now)) _ _ (s .pre .1) (s .pre .0) (c .before .before .before .before .before .before .before .before .before .locate-after .ensures) (c .before .before .before .before .before .before .before .before .judge-count .result) (c .before .before .before .before .before .before .before .judge-both .result) (c .before .before .before .before .before .before .before .before .judge-count .ensures) (c .before .before .before .before .before .before .before .judge-both .ensures) in
-    c .before .before .read-both .ensures ∙ sym (called-accepted columns st (read (a .address) (length (a .buffer .now))) (a .buffer .now) (read-split-refusal st (a .address) (length (a .buffer .now)) (s .pre .1) ∙ sym j ∙ ap paperVerdict (c .before .before .before .before .before .enum-told .given .1)))
+    let j = split-judged-as st (a .address) (length (a .buffer .now)) (s .pre) (c .before .before .before .before .before .before .before .before .before .before .judge-count .result) (c .before .before .before .before .before .before .before .before .judge-split .ensures) (c .before .before .before .before .before .before .judged2 .given .1) (c .before .before .before .before .before .before .before .before .before .before .judge-count .ensures) in
+    c .before .before .read-cells .ensures ∙ sym (called-accepted columns st (read (a .address) (length (a .buffer .now))) (a .buffer .now) (read-split-refusal st (a .address) (length (a .buffer .now)) (s .pre) ∙ j .0))
+
+returns-3 : tie.Need-returns-3
+returns-3 c =
+    let s = c .before .before .before .before .before .before .before .before .before .before .before .before .before in
+    let a = s .args in
+    let st = state (recordOf (a .registers .now)) (a .cells .now) in
+    let j = split-judged-as st (a .address) (length (a .buffer .now)) (s .pre) (c .before .before .before .before .before .before .before .before .before .before .judge-count .result) (c .before .before .before .before .before .before .before .before .judge-split .ensures) (c .before .before .before .before .before .before .judged3 .given .1) (c .before .before .before .before .before .before .before .before .before .before .judge-count .ensures) in
+    c .before .before .read-parts .ensures ∙ sym (called-accepted columns st (read (a .address) (length (a .buffer .now))) (a .buffer .now) (read-split-refusal st (a .address) (length (a .buffer .now)) (s .pre) ∙ j .0))
 
 pub read-split-spec : {M : Type 1} → statement M
 read-split-spec =
@@ -42,11 +58,14 @@ read-split-spec =
     (tie.spec
     (λ c κs. search needs)
     (λ c κs. search needs)
-    (λ c κs. search needs)
     (λ c. search needs)
     (λ c κs. search needs)
     (λ c. search needs)
-    read-both-requires
+    read-cells-requires
+    (λ c. search needs)
+    read-parts-requires
     returns
     (λ c. search needs)
-    returns-2)
+    returns-2
+    (λ c. search needs)
+    returns-3)

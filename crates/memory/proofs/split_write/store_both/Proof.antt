@@ -1,4 +1,4 @@
-use mathlib.Core.Path.{sym, ap, _∙_}
+use mathlib.Core.Path.{refl, sym, ap, _∙_}
 use mathlib.Core.Option.{some}
 use native.Mathlib.Omega.{arith}
 use lib.ListN.{length, take, drop, length-drop}
@@ -18,7 +18,7 @@ use Rattle.calls.proofs.SplitLaws.{split-rest, room-ends, next-aligned}
 use Rattle.machine.specs.Calls.{performed}
 use Rattle.memory.proofs.AccessLaws.{two-done}
 use Rattle.memory.proofs.FetchLaws.{clean-write}
-use Rattle.memory.proofs.SplitLaws.{cell-target, rest-taken}
+use Rattle.memory.proofs.SplitLaws.{rest-taken}
 use borrow.Author.Needs.{needs}
 use Rattle.memory.proofs.split_write.store_both.Statement.{statement}
 use Rattle.memory.proofs.split_write.store_both.Tie as tie
@@ -78,12 +78,10 @@ returns c r placed =
     let more = split-rest (a .address) (length bs) (s .pre .1) in
     let few = s .pre .2 in
     let whole = room-ends (a .address) in
-    let at-k = cell-target k in
-    let at-l = cell-target l in
     let stored = rw own-columns at (c .before .before .before .before .before .before .before .before .store-if .ensures) in
     let other = ap (λ x. cellAt x l) stored ∙ put-other cells k (encode columns low) (s .pre .0 .first-lent) (encode-length columns low (number-length (c .before .before .before .before .before .before .before .before .before .before .before .before .before .before .before .merged .result))) l
-    (λ same. placed .apart k at-k (at-l ∙ ap some same)) (s .pre .0 .second-lent) in
-    let all = two-done columns (writeIn (a .address) (take here bs)) (writeIn next (drop here bs)) (some k) (some l) (state r cells) _ _ (placed .first ∙ at-k) (placed .second ∙ at-l)
+    (λ same. placed .apart k refl (ap some same)) (s .pre .0 .second-lent) in
+    let all = two-done columns (writeIn (a .address) (take here bs)) (writeIn next (drop here bs)) (some k) (some l) (state r cells) _ _ (placed .first) (placed .second)
     (clean-write cells k _ r (c .before .before .before .before .before .before .before .before .before .before .before .before .before .before .before .before .before .doubleword-at .ensures) (s .pre .0 .first-clean) (a .address) (take here bs) (rw (length-take-le (room (a .address)) bs (omega arith)) (omega arith)) _ (rw (c .before .before .before .before .before .before .before .before .before .before .before .before .before .before .before .merged .ensures, e) at stored))
     (clean-write (c .before .before .before .before .before .before .before .before .store-if .last .1 .1 .1 .0) l (c .before .before .before .before .before .before .before .before .before .before .before .before .before .doubleword-at2 .result) r (c .before .before .before .before .before .before .before .before .before .before .before .before .before .doubleword-at2 .ensures ∙ ap (take 8) (sym other)) (ap (syndromeOf columns) other ∙ s .pre .0 .second-clean) next (drop here bs) (rw (length-drop (room (a .address)) bs) (omega arith)) (c .before .before .before .store-if2 .last .1 .1 .1 .0)
     (rw (next-aligned (a .address)) (rw (own-columns, c .before .before .before .before .before .before .before .before .before .before .before .merged2 .ensures, rest-taken bs (c .before .before .before .before .before .before .before .before .before .before .before .before .before .before .before .before .before .before .before .room-at .result), e) at (c .before .before .before .store-if2 .ensures)))) in

@@ -1,0 +1,41 @@
+// What an address comes to, as a number.
+ghost use mathlib.Core.Path.{_≡_};
+ghost use Rattle.refusals.specs.Paper.{_gives_};
+ghost use Rattle.banks.specs.Setup.{setupOf};
+ghost use Rattle.banks.specs.Judge.{notReady};
+ghost use Rattle.banks.specs.Map.{cellOf};
+ghost use Rattle.targets.specs.CodeTargets.{placeOf, located};
+use banks::Target;
+use registers::Registers;
+
+// The numbers of an address without a lent cell, and of the first cell.
+pub(crate) const NOT_READY: usize = 0;
+
+const NO_BANK: usize = 1;
+
+pub(crate) const NOT_LENT: usize = 2;
+
+pub(crate) const FIRST_CELL: usize = 3;
+
+// REF-9: a call goes to cell k only if that is wholly lent.
+fn place(k: u32, bytes: usize) -> usize
+    ensures { λ x. ⌜ x ≡ placeOf k bytes ⌝ }
+{
+    let cell = k as usize;
+    if 9 * cell + 9 <= bytes {
+        return FIRST_CELL + cell;
+    }
+    NOT_LENT
+}
+
+// One number for all that an address can come to: the calls share this function, and a number is returned in a register.
+pub(crate) fn locate(r: Registers, bytes: usize, address: u32) -> usize
+    ensures { λ x. ⌜ x ≡ located (notReady (setupOf r) gives cellOf (setupOf r) address) bytes ⌝ }
+{
+    let found = address_map::find_cell(r, address);
+    match found {
+        Target::NotReady => NOT_READY,
+        Target::NoBank => NO_BANK,
+        Target::Cell(k) => place(k, bytes),
+    }
+}

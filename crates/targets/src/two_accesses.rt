@@ -1,0 +1,97 @@
+// Where the two accesses of a split go.
+ghost use mathlib.Core.Path.{_≡_};
+ghost use Prim.Native.Nat.{_-_, _*_, _/_, _%_, _^_, _≤_};
+ghost use lib.Dec.{ltb};
+ghost use Rattle.refusals.specs.Paper.{_gives_};
+ghost use Rattle.registers.specs.Record.{recordOf};
+ghost use Rattle.banks.specs.Setup.{setupOf};
+ghost use Rattle.banks.specs.Judge.{notReady};
+ghost use Rattle.banks.specs.Map.{cellOf};
+ghost use Rattle.calls.specs.Calls.{nextDoubleword};
+ghost use Rattle.targets.specs.CodeTargets.{located, numberAfter, selectedBy, destinationsBy, judgedSplitBy};
+use crate::JudgedSplit;
+use crate::Selected;
+use crate::locate::FIRST_CELL;
+use crate::locate::NOT_LENT;
+use crate::locate::NOT_READY;
+use crate::locate::locate;
+use refusals::Refusal;
+use refusals::Verdict;
+use registers::Registers;
+use split::next_doubleword;
+
+// The doublewords of a megabyte.
+const IN_MEGABYTE: u32 = 131072;
+
+// The doubleword behind that of the address lies in the same megabyte.
+fn is_followed(address: u32) -> bool
+    ensures { λ t. ⌜ t ≡ ltb (address / 8 % 2 ^ 17) 131071 ⌝ }
+{
+    address / 8 % IN_MEGABYTE < IN_MEGABYTE - 1
+}
+
+// The number of the doubleword behind one of the same megabyte: its cell is the next one, if that is lent.
+fn number_after(first: usize, bytes: usize) -> usize
+    requires { ⌜ (3 ≤ first → 9 * (first - 2) ≤ bytes) ⌝ }
+    ensures { λ y. ⌜ y ≡ numberAfter first bytes ⌝ }
+{
+    if first < FIRST_CELL {
+        return first;
+    }
+    if bytes - 9 * (first - 2) < 9 {
+        return NOT_LENT;
+    }
+    first + 1
+}
+
+// What `locate` returns for the doubleword behind that of an address, if it returned `first` for the address. Where both lie in one megabyte the
+// record is neither judged nor copied again.
+fn locate_after(registers: &[u8; 256], bytes: usize, address: u32, first: usize) -> usize
+    requires { ⌜ first ≡ located (notReady (setupOf (recordOf (now registers))) gives cellOf (setupOf (recordOf (now registers))) address) bytes ⌝ }
+    ensures { λ y. ⌜ y ≡ located (notReady (setupOf (recordOf (now (registers .entry)))) gives cellOf (setupOf (recordOf (now (registers .entry)))) (nextDoubleword address % 2 ^ 32)) bytes ⌝ }
+{
+    if is_followed(address) {
+        return number_after(first, bytes);
+    }
+    let next = next_doubleword(address);
+    locate(Registers { bytes: *registers }, bytes, next)
+}
+
+fn selected(x: usize) -> Selected
+    ensures { λ s. ⌜ s ≡ selectedBy x ⌝ }
+{
+    if FIRST_CELL <= x {
+        return Selected::Cell(x - FIRST_CELL);
+    }
+    Selected::NoBank
+}
+
+// 9 of either access (REF-9, MEM-16). Two cells that are lent come first.
+fn destinations(first: usize, second: usize) -> JudgedSplit
+    ensures { λ j. ⌜ j ≡ destinationsBy first second ⌝ }
+{
+    if (FIRST_CELL <= first) & (FIRST_CELL <= second) {
+        return JudgedSplit::Cells(first - FIRST_CELL, second - FIRST_CELL);
+    }
+    if (first == NOT_LENT) | (second == NOT_LENT) {
+        return JudgedSplit::Refused(Refusal::NotLent);
+    }
+    JudgedSplit::Parts(selected(first), selected(second))
+}
+
+// REF-104: 5, then the refusal by the arguments, then 9.
+pub fn judge_split(registers: &[u8; 256], bytes: usize, address: u32, v: Verdict) -> JudgedSplit
+    ensures { λ j. ⌜ j ≡ judgedSplitBy (located (notReady (setupOf (recordOf (now (registers .entry)))) gives cellOf (setupOf (recordOf (now (registers .entry)))) address) bytes) (located (notReady (setupOf (recordOf (now (registers .entry)))) gives cellOf (setupOf (recordOf (now (registers .entry)))) (nextDoubleword address % 2 ^ 32)) bytes) v ⌝ }
+{
+    let first = locate(Registers { bytes: *registers }, bytes, address);
+    if first == NOT_READY {
+        return JudgedSplit::Refused(Refusal::NotReady);
+    }
+    match v {
+        Verdict::Accepted => {
+            let second = locate_after(registers, bytes, address, first);
+            destinations(first, second)
+        }
+        Verdict::Refused(x) => JudgedSplit::Refused(x),
+    }
+}
