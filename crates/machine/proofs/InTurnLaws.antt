@@ -1,11 +1,10 @@
 -- MEM-16: an accepted call is its accesses as single calls, one after the other.
-use Prim.Native.Nat.{ℕ, _+_, _-_, _%_, _^_, _<_}
+use Prim.Native.Nat.{ℕ, _-_, _%_, _^_, _<_}
 use mathlib.Core.Path.{_≡_, refl, sym, _∙_}
 use mathlib.Core.Bool.{true}
 use mathlib.Core.Option.{Option, none, some}
 use mathlib.Core.List.{List, [], _∷_}
 use native.Mathlib.Omega.{arith}
-use borrow.Author.Tests.{le-ltb}
 use lib.ListN.{length, take, drop, length-drop}
 use lib.Seq.{length-take-le}
 use Rattle.basics.specs.Lists.{All}
@@ -21,7 +20,7 @@ use Rattle.calls.specs.Spans.{Spans, byCount, byBurst, byArguments, bySpans, by
 use Rattle.calls.specs.State.{State}
 use Rattle.calls.proofs.SpanLaws.{Counted, count-fits, count-accepted, burst-fits}
 use Rattle.calls.proofs.BeatLaws.{beat-in-line, beat-aligned, beat-length}
-use Rattle.calls.proofs.SplitLaws.{split-rest, room-ends, next-at}
+use Rattle.calls.proofs.SplitLaws.{fits-inside, split-rest, room-ends, next-at}
 use Rattle.calls.proofs.PartLaws.{Fits, parts-fit}
 use Rattle.machine.specs.Cells.{onCell}
 use Rattle.machine.specs.Calls.{setup, spansOf, unlentAt, unlent, refusal, onTarget, accessAt, access, accesses, performed, memoryCall}
@@ -61,9 +60,9 @@ unlent-same (x ∷ xs) st st′ s l = rw (s, go (cellOf (setup st) (addressOf x)
 
 -- an access that stays inside its doubleword is the only one of its call
 pub single-parts : (x : Access) → Fits x → parts (single x) ≡ x ∷ []
-unfolding parts crosses
-single-parts (readIn a n) h = rw (le-ltb 8 (a % 8 + n) h)
-single-parts (writeIn a bs) h = rw (le-ltb 8 (a % 8 + length bs) h)
+unfolding parts
+single-parts (readIn a n) h = rw (fits-inside a n h)
+single-parts (writeIn a bs) h = rw (fits-inside a (length bs) h)
 single-parts (flipIn a b) h = refl
 single-parts (scrubIn a) h = refl
 

@@ -6,4 +6,3 @@ pub mod BurstLaws
 pub mod SplitLaws
 pub mod FetchLaws
 pub mod WholeLaws
-pub mod PartLaws

@@ -16,13 +16,13 @@ ghost use Rattle.calls.specs.Calls.{readIn, writeIn, flipIn, scrubIn, Got, got}
 ghost use Rattle.machine.specs.Cells.{answerOf};
 ghost use Rattle.machine.specs.Calls.{onTarget};
 ghost use Rattle.memory.specs.CodeReading.{isLost, isCorrected};
-use crate::bytes::copy_out;
 use crate::bytes::joined;
-use crate::bytes::merged;
 use crate::lent::check_at;
 use crate::lent::doubleword_at;
 use crate::lent::flip_at;
 use crate::lent::put_cell;
+use byte_lanes::copy_out;
+use byte_lanes::merged;
 use calls::Kind;
 use correction::Loaded;
 use ecc::Reading;
@@ -107,14 +107,13 @@ pub(crate) fn read_cell(
     requires { ⌜ (isLent (now cells) k ≡ true) × (address % 8 + length (now buffer) ≤ 8) ⌝ }
     ensures { λ x. ⌜ (got x (now (buffer .exit)), now (cells .entry)) ≡ onTarget (columnsFor lent (now (columns .entry))) (some k) (now (cells .entry)) (readIn address (length (now (buffer .entry)))) ⌝ }
 {
-    let offset = (address % 8) as usize;
     let s = syndrome_at(lent, columns, cells, k);
     if s == 0 {
-        copy_out(doubleword_at(cells, k), offset, buffer);
+        copy_out(doubleword_at(cells, k), address, buffer);
         return Kind::Clean;
     }
     let loaded = load(lent, columns, cells, k, s);
-    copy_out(loaded.doubleword, offset, buffer);
+    copy_out(loaded.doubleword, address, buffer);
     let reading = loaded.reading;
     kind_of(reading)
 }
@@ -136,16 +135,15 @@ pub(crate) fn write_cell(
         store_if(true, lent, columns, cells, k, joined(bytes));
         return Kind::Stored;
     }
-    let offset = (address % 8) as usize;
     let s = syndrome_at(lent, columns, cells, k);
     if s == 0 {
-        let doubleword = merged(doubleword_at(cells, k), offset, bytes);
+        let doubleword = merged(doubleword_at(cells, k), address, bytes);
         store_if(true, lent, columns, cells, k, doubleword);
         return Kind::Clean;
     }
     let loaded = load(lent, columns, cells, k, s);
     let reading = loaded.reading;
-    let doubleword = merged(loaded.doubleword, offset, bytes);
+    let doubleword = merged(loaded.doubleword, address, bytes);
     store_if(!is_lost(reading), lent, columns, cells, k, doubleword);
     kind_of(reading)
 }

@@ -7,6 +7,7 @@ ghost use Rattle.ecc.specs.CheckCode.{flipBit};
 ghost use Rattle.ecc.specs.Doubleword.{bytesOfNumber};
 ghost use Rattle.ecc.specs.Lending.{cellAt, putCell, isLent};
 use crate::bytes::joined;
+use byte_lanes::store_nine;
 
 // The data bytes of cell k as they are stored, as a doubleword.
 pub(crate) fn doubleword_at(cells: &[u8], k: usize) -> u64
@@ -25,29 +26,13 @@ pub(crate) fn check_at(cells: &[u8], k: usize) -> u8
     cells[9 * k + 8]
 }
 
-// Stores nine bytes into a slice.
-fn store(part: &mut [u8], cell: [u8; 9])
-    requires { ⌜ length (now part) ≡ 9 ⌝ }
-    ensures { λ _. ⌜ now (part .exit) ≡ cell ⌝ }
-{
-    part[0] = cell[0];
-    part[1] = cell[1];
-    part[2] = cell[2];
-    part[3] = cell[3];
-    part[4] = cell[4];
-    part[5] = cell[5];
-    part[6] = cell[6];
-    part[7] = cell[7];
-    part[8] = cell[8];
-}
-
 // FORM-6: replaces cell k; the nine bytes in the middle of the lent cells are passed on.
 pub(crate) fn put_cell(cells: &mut [u8], k: usize, cell: [u8; 9])
     requires { ⌜ isLent (now cells) k ≡ true ⌝ }
     ensures { λ _. ⌜ now (cells .exit) ≡ putCell (now (cells .entry)) k cell ⌝ }
 {
     let a = 9 * k;
-    store(&mut cells[a..a + 9], cell);
+    store_nine(&mut cells[a..a + 9], cell);
 }
 
 // ECC-3: inverts a flip bit within nine bytes.

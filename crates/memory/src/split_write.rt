@@ -19,12 +19,12 @@ use crate::access::LENT;
 use crate::access::NO_COLUMNS;
 use crate::access::store_if;
 use crate::access::syndrome_at;
-use crate::bytes::merged;
 use crate::fetch::fetch;
 use crate::fetch::is_right;
 use crate::in_place::refuse;
 use crate::lent::doubleword_at;
 use crate::two_parts::answer;
+use byte_lanes::merged;
 use calls::Answer;
 use calls::Kind;
 use error_registers::report;
@@ -50,7 +50,7 @@ fn write_short(
     let old = fetch(registers, cells, k, s, address);
     let kind = old.kind;
     if is_right(kind) {
-        let doubleword = merged(old.doubleword, (address % 8) as usize, bytes);
+        let doubleword = merged(old.doubleword, address, bytes);
         store_if(true, LENT, &NO_COLUMNS, cells, k, doubleword);
     }
     kind
@@ -101,7 +101,7 @@ fn store_both(cells: &mut [u8], k: usize, l: usize, address: u32, bytes: &[u8]) 
     ensures { λ x. ⌜ ((r : Registers) → Placed (state r (now (cells .entry))) address (some k) (some l) → leaves x (state r (now (cells .exit))) [] ≡ effectOf (performed columns none (state r (now (cells .entry))) (parts (write address (now (bytes .entry))))) []) ⌝ }
 {
     let n = room_at(address);
-    let low = merged(doubleword_at(cells, k), (address % 8) as usize, &bytes[..n]);
+    let low = merged(doubleword_at(cells, k), address, &bytes[..n]);
     let high = merged(doubleword_at(cells, l), 0, &bytes[n..]);
     store_if(true, LENT, &NO_COLUMNS, cells, k, low);
     store_if(true, LENT, &NO_COLUMNS, cells, l, high);

@@ -12,17 +12,10 @@ use Rattle.cache_line.specs.CodeLine.{lastDoubleword}
 use Rattle.targets.proofs.JudgeLaws.{judged-as}
 use Rattle.memory.proofs.CallLaws.{called-refused, judged-arguments}
 use Rattle.memory.proofs.BurstLaws.{burst-read-refusal, burst-read-done, read-missed}
+use borrow.Author.Tests.{eq-eqb}
 use borrow.Author.Needs.{needs}
 use Rattle.memory.proofs.burst_read.burst_read_in_place.Statement.{statement}
 use Rattle.memory.proofs.burst_read.burst_read_in_place.Tie as tie
-
-copy-line-requires : tie.Need-copy-line-requires
-copy-line-requires c κs =
-    let a = c .before .before .before .before .before .before .before .before .before .args in
-    let st = state (recordOf (a .registers .now)) (a .cells .now) in
-    let end = lastDoubleword (a .address) in
-    let j = judged-as st end (c .before .before .before .before .judge-burst .result) _ (rw (c .before .before .before .before .before .before .last-doubleword .ensures) at (c .before .before .before .judge .ensures)) (c .before .enum-told .given .1) (c .before .before .before .before .judge-burst .ensures) in
-    burst-fits (a .address) (length (a .buffer .now)) (judged-arguments st end (byBurst (a .address) (length (a .buffer .now))) (j .0)) .1
 
 read-beats-requires : tie.Need-read-beats-requires
 read-beats-requires c κs =
@@ -49,7 +42,7 @@ returns-2 c =
     let end = lastDoubleword (a .address) in
     let j = judged-as st end (c .before .before .before .before .before .before .before .before .before .judge-burst .result) _ (rw (c .before .before .before .before .before .before .before .before .before .before .before .last-doubleword .ensures) at (c .before .before .before .before .before .before .before .before .judge .ensures)) (c .before .before .before .before .before .before .enum-told .given .1) (c .before .before .before .before .before .before .before .before .before .judge-burst .ensures) in
     let n = length (a .buffer .now) in
-    rw (c .miss-beats .ensures .0, c .miss-beats .ensures .1, c .before .before .before .before .copy-line .ensures)
+    rw (c .miss-beats .ensures .0, c .miss-beats .ensures .1, c .before .before .before .before .copy-line .ensures, eq-eqb n 32 (burst-fits (a .address) n (judged-arguments st end (byBurst (a .address) n) (j .0)) .1))
     (sym (burst-read-done columns st (a .address) n (a .buffer .now) (burst-read-refusal st (a .address) n ∙ j .0) ∙ read-missed columns st (a .address) (j .1)))
 
 returns-3 : tie.Need-returns-3
@@ -71,7 +64,7 @@ burst-read-in-place-spec =
     (λ c. search needs)
     (λ c κs. search needs)
     (λ c. search needs)
-    copy-line-requires
+    (λ c κs. search needs)
     (λ c κs. search needs)
     (λ c. search needs)
     read-beats-requires

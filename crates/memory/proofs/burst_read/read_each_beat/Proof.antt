@@ -7,6 +7,7 @@ use Rattle.cache_line.specs.CodeLine.{cellInLine}
 use Rattle.registers.specs.Record.{recordOf}
 use Rattle.memory.proofs.LineLaws.{beat-cell, end-is-last}
 use Rattle.memory.proofs.BurstLaws.{four-done}
+use borrow.Author.Tests.{eq-eqb}
 use borrow.Author.Needs.{needs}
 use Rattle.memory.proofs.burst_read.read_each_beat.Statement.{statement}
 use Rattle.memory.proofs.burst_read.read_each_beat.Tie as tie
@@ -31,7 +32,7 @@ returns c =
     let st = state (recordOf (a .registers .now)) (a .cells .now) in
     let all = four-done columns (λ i. readIn (beatAddress (a .address) i) 8) (λ i. some (cellInLine (beatAddress (a .address) i) (a .last))) st _ _ _ _ (beat-cell (st .registers) (a .address) (a .last) (s .pre .1))
     (c .before .before .before .before .before .before .before .before .before .before .before .read-beat .ensures) (c .before .before .before .before .before .before .before .before .before .read-beat2 .ensures) (c .before .before .before .before .before .before .before .read-beat3 .ensures) (c .before .before .before .before .before .read-beat4 .ensures) in
-    rw (all, c .answer .ensures, c .before .before .before .copy-line .ensures)
+    rw (all, c .answer .ensures, c .before .before .before .copy-line .ensures, eq-eqb _ 32 (s .pre .3))
 
 pub read-each-beat-spec : {M : Type 1} → statement M
 read-each-beat-spec =

@@ -8,7 +8,7 @@ use Rattle.ecc.proofs.ColumnLaws.{own-columns}
 use Rattle.calls.specs.State.{state}
 use Rattle.calls.specs.Calls.{read, readIn}
 use Rattle.calls.specs.Spans.{missed}
-use Rattle.calls.proofs.SplitLaws.{inside-fits}
+use Rattle.calls.proofs.SplitLaws.{inside-fits, fits-inside}
 use Rattle.machine.specs.Calls.{onTarget}
 use Rattle.machine.proofs.InTurnLaws.{single-parts}
 use Rattle.targets.proofs.JudgeLaws.{judged-as}
@@ -20,9 +20,6 @@ use Rattle.memory.proofs.in_place.read_in_place.Tie as tie
 
 read-split-requires : tie.Need-read-split-requires
 read-split-requires c κs = sym (c .before .before .before .crosses-end .ensures) ∙ c .before .before .if1 .taken
-
-copy-out-requires : tie.Need-copy-out-requires
-copy-out-requires c κs = let a = c .before .before .before .before .before .before .before .before .before .before .args in omega (arith, inside-fits (a .address) (length (a .buffer .now)) (sym (c .before .before .before .before .before .before .before .crosses-end .ensures) ∙ c .before .before .before .before .before .before .if1 .left))
 
 read-cell-requires : tie.Need-read-cell-requires
 read-cell-requires c κs =
@@ -50,7 +47,7 @@ returns-3 c =
     let inside = sym (c .before .before .before .before .before .before .before .before .before .before .before .before .crosses-end .ensures) ∙ c .before .before .before .before .before .before .before .before .before .before .before .if1 .left in
     let fits = inside-fits (a .address) (length (a .buffer .now)) inside in
     let j = judged-as st (a .address) (c .before .before .before .before .before .before .before .before .before .judge-inside .result) _ (c .before .before .before .before .before .before .before .before .judge .ensures) (c .before .before .before .before .before .before .enum-told .given .1) (c .before .before .before .before .before .before .before .before .before .judge-inside .ensures (a .address) (omega arith) inside) in
-    simp (c .report .ensures .0) (sym (called-done st (read (a .address) (length (a .buffer .now))) (readIn (a .address) (length (a .buffer .now))) (single-parts (readIn (a .address) (length (a .buffer .now))) fits) columns (a .buffer .now) (read-refusal st (a .address) (length (a .buffer .now)) fits ∙ j .0) _ _ _ _ _ (j .1) (rw (c .before .before .before .before .copy-out .ensures ∙ ones-taken 0 (length (a .buffer .now)) (omega (arith, fits)))) (c .report .ensures .1)))
+    simp (c .report .ensures .0) (sym (called-done st (read (a .address) (length (a .buffer .now))) (readIn (a .address) (length (a .buffer .now))) (single-parts (readIn (a .address) (length (a .buffer .now))) fits) columns (a .buffer .now) (read-refusal st (a .address) (length (a .buffer .now)) fits ∙ j .0) _ _ _ _ _ (j .1) (rw (c .before .before .before .before .copy-out .ensures, fits-inside 0 (length (a .buffer .now)) (omega (arith, fits)), ones-taken 0 (length (a .buffer .now)) (omega (arith, fits)))) (c .report .ensures .1)))
 
 returns-4 : tie.Need-returns-4
 returns-4 c =
@@ -74,7 +71,7 @@ read-in-place-spec =
     (λ c. search needs)
     (λ c κs. search needs)
     (λ c. search needs)
-    copy-out-requires
+    (λ c κs. search needs)
     (λ c κs. search needs)
     (λ c. search needs)
     (λ c. search needs)

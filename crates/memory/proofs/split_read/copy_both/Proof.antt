@@ -2,6 +2,7 @@ use lib.ListN.{length}
 use Rattle.machine.specs.Calls.{performed}
 use mathlib.Core.Option.{some}
 use Rattle.memory.proofs.FetchLaws.{asClean, clean-fetched, unreported, split-read}
+use Rattle.memory.proofs.SplitLaws.{across-taken}
 use borrow.Author.Needs.{needs}
 use Rattle.memory.proofs.split_read.copy_both.Statement.{statement}
 use Rattle.memory.proofs.split_read.copy_both.Tie as tie
@@ -26,7 +27,7 @@ returns c r placed =
     let z = s .pre .0 .second-clean in
     let all = split-read cells r r r (a .address) (length (a .buffer .now)) (some (a .k)) (some (a .l)) (asClean cells (a .k) d r u y) (asClean cells (a .l) e r v z) (s .pre .1) (s .pre .2)
     (placed .first) (placed .second) (clean-fetched cells (a .k) d r u y) (unreported cells (a .k) d r u y _) (clean-fetched cells (a .l) e r v z) (unreported cells (a .l) e r v z _) in
-    rw (all, c .answer .ensures, c .before .before .before .copy-across .ensures)
+    rw (all, c .answer .ensures, c .before .before .before .copy-across .ensures, across-taken d e (a .address) _ _ (s .pre .1) (s .pre .2))
 
 pub copy-both-spec : {M : Type 1} → statement M
 copy-both-spec =

@@ -14,7 +14,7 @@ use Rattle.ecc.proofs.DoublewordLaws.{number-length}
 use Rattle.ecc.proofs.Laws.{encode-length}
 use Rattle.calls.specs.Calls.{writeIn, room, nextDoubleword, parts}
 use Rattle.calls.specs.State.{state}
-use Rattle.calls.proofs.SplitLaws.{split-rest, room-ends, next-aligned}
+use Rattle.calls.proofs.SplitLaws.{fits-inside, split-rest, room-ends, next-aligned}
 use Rattle.machine.specs.Calls.{performed}
 use Rattle.memory.proofs.AccessLaws.{two-done}
 use Rattle.memory.proofs.FetchLaws.{clean-write}
@@ -32,14 +32,6 @@ slice-aggregate-merged c =
     let bs = s .args .bytes .now in
     sym (length-take-le (c .before .before .before .room-at .result) bs (omega (arith, c .before .before .before .room-at .ensures, split-rest (s .args .address) (length bs) (s .pre .1))))
 
-merged-requires : tie.Need-merged-requires
-merged-requires c κs =
-    let s = c .before .before .before .before .before .before in
-    let bs = s .args .bytes .now in
-    let e = c .before .before .before .room-at .ensures in
-    let l = length-take-le (c .before .before .before .room-at .result) bs (omega (arith, split-rest (s .args .address) (length bs) (s .pre .1))) in
-    omega (arith, room-ends (s .args .address))
-
 doubleword-at-requires-2 : tie.Need-doubleword-at-requires-2
 doubleword-at-requires-2 c κs = c .before .before .before .before .before .before .before .before .pre .0 .second-lent
 
@@ -48,13 +40,6 @@ sub-merged c = let s = c .before .before .before .before .before .before .before
 
 part-merged-start : tie.Need-part-merged-start
 part-merged-start c = let s = c .before .before .before .before .before .before .before .before .before in omega (arith, c .before .before .before .before .before .before .room-at .ensures, split-rest (s .args .address) (length (s .args .bytes .now)) (s .pre .1))
-
-merged-requires-2 : tie.Need-merged-requires-2
-merged-requires-2 c κs =
-    let s = c .before .before .before .before .before .before .before .before .before .before in
-    let bs = s .args .bytes .now in
-    let few = s .pre .2 in
-    rw (rest-taken bs (c .before .before .before .before .before .before .before .room-at .result)) (omega (arith, length-drop (c .before .before .before .before .before .before .before .room-at .result) bs))
 
 store-if-requires : tie.Need-store-if-requires
 store-if-requires c κs = c .before .before .before .before .before .before .before .before .before .before .before .before .before .pre .0 .first-lent
@@ -78,13 +63,15 @@ returns c r placed =
     let more = split-rest (a .address) (length bs) (s .pre .1) in
     let few = s .pre .2 in
     let whole = room-ends (a .address) in
+    let few-here = length-take-le here bs (omega arith) in
+    let few-next = length-drop here bs in
     let stored = rw own-columns at (c .before .before .before .before .before .before .before .before .store-if .ensures) in
     let other = ap (λ x. cellAt x l) stored ∙ put-other cells k (encode columns low) (s .pre .0 .first-lent) (encode-length columns low (number-length (c .before .before .before .before .before .before .before .before .before .before .before .before .before .before .before .merged .result))) l
     (λ same. placed .apart k refl (ap some same)) (s .pre .0 .second-lent) in
     let all = two-done columns (writeIn (a .address) (take here bs)) (writeIn next (drop here bs)) (some k) (some l) (state r cells) _ _ (placed .first) (placed .second)
-    (clean-write cells k _ r (c .before .before .before .before .before .before .before .before .before .before .before .before .before .before .before .before .before .doubleword-at .ensures) (s .pre .0 .first-clean) (a .address) (take here bs) (rw (length-take-le (room (a .address)) bs (omega arith)) (omega arith)) _ (rw (c .before .before .before .before .before .before .before .before .before .before .before .before .before .before .before .merged .ensures, e) at stored))
-    (clean-write (c .before .before .before .before .before .before .before .before .store-if .last .1 .1 .1 .0) l (c .before .before .before .before .before .before .before .before .before .before .before .before .before .doubleword-at2 .result) r (c .before .before .before .before .before .before .before .before .before .before .before .before .before .doubleword-at2 .ensures ∙ ap (take 8) (sym other)) (ap (syndromeOf columns) other ∙ s .pre .0 .second-clean) next (drop here bs) (rw (length-drop (room (a .address)) bs) (omega arith)) (c .before .before .before .store-if2 .last .1 .1 .1 .0)
-    (rw (next-aligned (a .address)) (rw (own-columns, c .before .before .before .before .before .before .before .before .before .before .before .merged2 .ensures, rest-taken bs (c .before .before .before .before .before .before .before .before .before .before .before .before .before .before .before .before .before .before .before .room-at .result), e) at (c .before .before .before .store-if2 .ensures)))) in
+    (clean-write cells k _ r (c .before .before .before .before .before .before .before .before .before .before .before .before .before .before .before .before .before .doubleword-at .ensures) (s .pre .0 .first-clean) (a .address) (take here bs) (omega (arith, few-here)) _ (rw (c .before .before .before .before .before .before .before .before .before .before .before .before .before .before .before .merged .ensures, e, fits-inside (a .address) (length (take here bs)) (omega (arith, few-here))) at stored))
+    (clean-write (c .before .before .before .before .before .before .before .before .store-if .last .1 .1 .1 .0) l (c .before .before .before .before .before .before .before .before .before .before .before .before .before .doubleword-at2 .result) r (c .before .before .before .before .before .before .before .before .before .before .before .before .before .doubleword-at2 .ensures ∙ ap (take 8) (sym other)) (ap (syndromeOf columns) other ∙ s .pre .0 .second-clean) next (drop here bs) (omega (arith, few-next)) (c .before .before .before .store-if2 .last .1 .1 .1 .0)
+    (rw (next-aligned (a .address)) (rw (own-columns, c .before .before .before .before .before .before .before .before .before .before .before .merged2 .ensures, rest-taken bs (c .before .before .before .before .before .before .before .before .before .before .before .before .before .before .before .before .before .before .before .room-at .result), e, fits-inside 0 (length (drop here bs)) (omega (arith, few-next))) at (c .before .before .before .store-if2 .ensures)))) in
     rw (s .pre .1, all, c .answer .ensures)
 
 pub store-both-spec : {M : Type 1} → statement M
@@ -93,14 +80,13 @@ store-both-spec =
     (tie.spec
     (λ c κs. search needs)
     doubleword-at-requires
-    (λ c. search needs)
     slice-aggregate-merged
-    merged-requires
+    (λ c κs. search needs)
     doubleword-at-requires-2
     sub-merged
     part-merged-start
     (λ c. search needs)
-    merged-requires-2
+    (λ c κs. search needs)
     (λ c. search needs)
     store-if-requires
     (λ c. search needs)

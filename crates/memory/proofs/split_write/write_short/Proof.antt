@@ -2,6 +2,7 @@ use mathlib.Core.Path.{sym, _∙_}
 use mathlib.Core.Option.{some}
 use Rattle.registers.specs.Record.{recordOf}
 use Rattle.ecc.proofs.ColumnLaws.{own-columns}
+use Rattle.calls.proofs.SplitLaws.{fits-inside}
 use Rattle.memory.proofs.FetchLaws.{fetched-write, fetched-kept}
 use borrow.Author.Needs.{needs}
 use Rattle.memory.proofs.split_write.write_short.Statement.{statement}
@@ -22,7 +23,7 @@ returns c =
     let a = s .args in
     let right = sym (c .before .before .before .before .before .before .before .is-right .ensures) ∙ c .before .before .before .before .before .before .if1 .taken in
     fetched-write (a .cells .now) (c .before .before .before .before .before .before .before .before .fetch .result) (recordOf (a .registers .now)) _ (a .address) (c .before .before .before .before .before .before .before .before .fetch .ensures .1) (a .bytes .now) (s .pre .2) (a .k) (c .before .before .before .before .before .before .before .before .fetch .ensures .0) _
-    (rw right (rw (own-columns, c .before .before .before .before .before .merged .ensures) at (c .before .before .store-if .ensures)))
+    (rw right (rw (own-columns, c .before .before .before .before .before .merged .ensures, fits-inside _ _ (s .pre .1)) at (c .before .before .store-if .ensures)))
 
 returns-2 : tie.Need-returns-2
 returns-2 c =
@@ -38,7 +39,6 @@ write-short-spec =
     syndrome-at-requires
     fetch-requires
     (λ c κs. search needs)
-    (λ c. search needs)
     (λ c κs. search needs)
     (λ c. search needs)
     store-if-requires

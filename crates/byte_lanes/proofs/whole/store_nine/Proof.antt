@@ -1,10 +1,20 @@
 use mathlib.Core.Path.{_∙_}
 use native.Mathlib.Omega.{arith}
+use borrow.Author.Tests.{eq-eqb, ne-eqb}
 use borrow.Author.Needs.{needs}
 use lib.ListN.{length-set}
 use Rattle.basics.proofs.ListLaws.{listFrom, from-all, all-stored}
-use Rattle.memory.proofs.lent.store.Statement.{statement}
-use Rattle.memory.proofs.lent.store.Tie as tie
+use Rattle.byte_lanes.proofs.whole.store_nine.Statement.{statement}
+use Rattle.byte_lanes.proofs.whole.store_nine.Tie as tie
+
+returns : tie.Need-returns
+returns c = rw (ne-eqb _ 9 (c .if1 .taken))
+
+slice-write-part-3 : tie.Need-slice-write-part-3
+slice-write-part-3 c = simp length-set (omega arith)
+
+slice-write-part-4 : tie.Need-slice-write-part-4
+slice-write-part-4 c = simp length-set (omega arith)
 
 slice-write-part-5 : tie.Need-slice-write-part-5
 slice-write-part-5 c = simp length-set (omega arith)
@@ -24,24 +34,25 @@ slice-write-part-9 c = simp length-set (omega arith)
 same-length : tie.Need-same-length
 same-length c = simp length-set
 
-returns : tie.Need-returns
-returns c =
-    let part = c .args .part .now in
-    let cell = c .args .t2 in
-    all-stored part (listFrom cell 0 9) (omega arith) ∙ from-all cell 9 (search needs)
+returns-2 : tie.Need-returns-2
+returns-2 c =
+    let part = c .before .args .part .now in
+    let nine = c .before .args .t2 in
+    rw (eq-eqb _ 9 (c .if1 .left)) (all-stored part (listFrom nine 0 9) (omega arith) ∙ from-all nine 9 (search needs))
 
-pub store-spec : {M : Type 1} → statement M
-store-spec =
+pub store-nine-spec : {M : Type 1} → statement M
+store-nine-spec =
     tie.close
     (tie.spec
+    returns
     (λ c. search needs)
     (λ c. search needs)
     (λ c. search needs)
     (λ c. search needs)
     (λ c. search needs)
+    slice-write-part-3
     (λ c. search needs)
-    (λ c. search needs)
-    (λ c. search needs)
+    slice-write-part-4
     (λ c. search needs)
     slice-write-part-5
     (λ c. search needs)
@@ -53,4 +64,4 @@ store-spec =
     (λ c. search needs)
     slice-write-part-9
     same-length
-    returns)
+    returns-2)

@@ -1,8 +1,8 @@
 use native.Mathlib.Omega.{arith}
 use Rattle.ecc.proofs.DoublewordLaws.{number-put}
 use borrow.Author.Needs.{needs}
-use Rattle.memory.proofs.bytes.with_byte.Statement.{statement}
-use Rattle.memory.proofs.bytes.with_byte.Tie as tie
+use Rattle.byte_lanes.proofs.into.with_byte.Statement.{statement}
+use Rattle.byte_lanes.proofs.into.with_byte.Tie as tie
 
 returns : tie.Need-returns
 returns c = let a = c .before .args in rw (c .wide .ensures) (number-put (a .doubleword) (a .k) (a .b) (c .before .pre) (omega arith))

@@ -1,8 +1,8 @@
 use mathlib.Core.Path.{sym}
 use Rattle.ecc.proofs.DoublewordLaws.{number-at}
 use borrow.Author.Needs.{needs}
-use Rattle.memory.proofs.bytes.byte.Statement.{statement}
-use Rattle.memory.proofs.bytes.byte.Tie as tie
+use Rattle.byte_lanes.proofs.out.byte.Statement.{statement}
+use Rattle.byte_lanes.proofs.out.byte.Tie as tie
 
 returns : tie.Need-returns
 returns c = sym (number-at (c .args .doubleword) (c .args .k) (c .pre))

@@ -4,8 +4,8 @@ use lib.ListN.{length-set}
 use Rattle.ecc.specs.Doubleword.{bytesOfNumber}
 use Rattle.basics.proofs.ListLaws.{listFrom, from-all, all-stored}
 use borrow.Author.Needs.{needs}
-use Rattle.memory.proofs.bytes.copy_all.Statement.{statement}
-use Rattle.memory.proofs.bytes.copy_all.Tie as tie
+use Rattle.byte_lanes.proofs.whole.copy_all.Statement.{statement}
+use Rattle.byte_lanes.proofs.whole.copy_all.Tie as tie
 
 slice-write-buffer-5 : tie.Need-slice-write-buffer-5
 slice-write-buffer-5 c = simp length-set (omega arith)

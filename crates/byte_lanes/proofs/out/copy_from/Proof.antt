@@ -8,8 +8,8 @@ use lib.ListN.{length, drop, length-set, length-drop}
 use lib.Seq.{paste, paste-zero, paste-suc, getD-drop, drop-length, take-all}
 use Rattle.ecc.specs.Doubleword.{bytesOfNumber}
 use Rattle.ecc.proofs.DoublewordLaws.{number-length}
-use Rattle.memory.proofs.bytes.copy_out.Statement.{statement}
-use Rattle.memory.proofs.bytes.copy_out.Tie as tie
+use Rattle.byte_lanes.proofs.out.copy_from.Statement.{statement}
+use Rattle.byte_lanes.proofs.out.copy_from.Tie as tie
 
 abbrev Inv-loop : tie.InvT-loop
 Inv-loop doubleword offset buffer₀ i₀ buffer i = (i ≤ length buffer) × (length buffer ≡ length buffer₀) × (buffer ≡ paste buffer₀ 0 (drop offset (bytesOfNumber doubleword)) i)
@@ -73,8 +73,8 @@ returns-2 c =
     let e : l .i ≡ length (a .buffer .now) = omega arith in
     l .inv .2 ∙ rw e (simp (zero-add, drop-length) (append-nil _))
 
-pub copy-out-spec : {M : Type 1} → statement M
-copy-out-spec =
+pub copy-from-spec : {M : Type 1} → statement M
+copy-from-spec =
     tie.close
     (tie.spec
     Inv-loop

@@ -7,8 +7,8 @@ use lib.Seq.{paste, paste-zero, paste-suc, take-length}
 use Rattle.ecc.specs.Doubleword.{bytesOfNumber}
 use Rattle.ecc.proofs.DoublewordLaws.{number-length}
 use Rattle.machine.specs.Cells.{merge}
-use Rattle.memory.proofs.bytes.merged.Statement.{statement}
-use Rattle.memory.proofs.bytes.merged.Tie as tie
+use Rattle.byte_lanes.proofs.into.with_bytes.Statement.{statement}
+use Rattle.byte_lanes.proofs.into.with_bytes.Tie as tie
 
 abbrev Inv-loop : tie.InvT-loop
 Inv-loop doubleword offset bytes x₀ i₀ x i = (i ≤ length bytes) × (bytesOfNumber x ≡ paste (bytesOfNumber doubleword) offset bytes i)
@@ -52,8 +52,8 @@ returns c =
     let e : l .i ≡ length (a .bytes .now) = omega arith in
     l .inv .1 ∙ rw (e, take-length)
 
-pub merged-spec : {M : Type 1} → statement M
-merged-spec =
+pub with-bytes-spec : {M : Type 1} → statement M
+with-bytes-spec =
     tie.close
     (tie.spec
     Inv-loop
