@@ -1,4 +1,5 @@
 use mathlib.Core.Path.{sym, _∙_}
+use native.Mathlib.Omega.{arith}
 use lib.ListN.{length}
 use Rattle.calls.proofs.SplitLaws.{inside-fits}
 use borrow.Author.Needs.{needs}
@@ -11,7 +12,7 @@ returns c = rw (sym (c .before .crosses-end .ensures) ∙ c .if1 .taken)
 copy-from-requires : tie.Need-copy-from-requires
 copy-from-requires c κs =
     let a = c .before .before .before .before .args in
-    inside-fits (a .address) (length (a .buffer .now)) (sym (c .before .before .crosses-end .ensures) ∙ c .before .if1 .left)
+    omega (arith, inside-fits (a .address) (length (a .buffer .now)) (sym (c .before .before .crosses-end .ensures) ∙ c .before .if1 .left))
 
 returns-2 : tie.Need-returns-2
 returns-2 c = rw (sym (c .before .before .before .before .before .crosses-end .ensures) ∙ c .before .before .before .before .if1 .left) (c .before .before .copy-from .ensures)
