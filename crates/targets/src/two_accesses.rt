@@ -30,33 +30,6 @@ fn is_followed(address: u32) -> bool
     address / 8 % IN_MEGABYTE < IN_MEGABYTE - 1
 }
 
-// The number of the doubleword behind one of the same megabyte: its cell is the next one, if that is lent.
-fn number_after(first: usize, bytes: usize) -> usize
-    requires { ⌜ (3 ≤ first → 9 * (first - 2) ≤ bytes) ⌝ }
-    ensures { λ y. ⌜ y ≡ numberAfter first bytes ⌝ }
-{
-    if first < FIRST_CELL {
-        return first;
-    }
-    if bytes - 9 * (first - 2) < 9 {
-        return NOT_LENT;
-    }
-    first + 1
-}
-
-// What `locate` returns for the doubleword behind that of an address, if it returned `first` for the address. Where both lie in one megabyte the
-// record is neither judged nor copied again.
-fn locate_after(registers: &[u8; 256], bytes: usize, address: u32, first: usize) -> usize
-    requires { ⌜ first ≡ located (notReady (setupOf (recordOf (now registers))) gives cellOf (setupOf (recordOf (now registers))) address) bytes ⌝ }
-    ensures { λ y. ⌜ y ≡ located (notReady (setupOf (recordOf (now (registers .entry)))) gives cellOf (setupOf (recordOf (now (registers .entry)))) (nextDoubleword address % 2 ^ 32)) bytes ⌝ }
-{
-    if is_followed(address) {
-        return number_after(first, bytes);
-    }
-    let next = next_doubleword(address);
-    locate(Registers { bytes: *registers }, bytes, next)
-}
-
 fn selected(x: usize) -> Selected
     ensures { λ s. ⌜ s ≡ selectedBy x ⌝ }
 {
@@ -79,6 +52,35 @@ fn destinations(first: usize, second: usize) -> JudgedSplit
     JudgedSplit::Parts(selected(first), selected(second))
 }
 
+// The same for a doubleword and the one behind it in the same megabyte, whose cell is the next one, if that is lent. The compiler then knows that the
+// two cells lie side by side.
+fn destinations_after(first: usize, bytes: usize) -> JudgedSplit
+    requires { ⌜ (3 ≤ first → 9 * (first - 2) ≤ bytes) ⌝ }
+    ensures { λ j. ⌜ j ≡ destinationsBy first (numberAfter first bytes) ⌝ }
+{
+    if first < FIRST_CELL {
+        return destinations(first, first);
+    }
+    if bytes - 9 * (first - 2) < 9 {
+        return JudgedSplit::Refused(Refusal::NotLent);
+    }
+    JudgedSplit::Cells(first - FIRST_CELL, first - 2)
+}
+
+// Where both accesses go, if the arguments are not refused and `locate` returned `first` for the address. Where both doublewords lie in one megabyte
+// the record is neither judged nor copied again.
+fn destinations_at(registers: &[u8; 256], bytes: usize, address: u32, first: usize) -> JudgedSplit
+    requires { ⌜ first ≡ located (notReady (setupOf (recordOf (now registers))) gives cellOf (setupOf (recordOf (now registers))) address) bytes ⌝ }
+    ensures { λ j. ⌜ j ≡ destinationsBy first (located (notReady (setupOf (recordOf (now (registers .entry)))) gives cellOf (setupOf (recordOf (now (registers .entry)))) (nextDoubleword address % 2 ^ 32)) bytes) ⌝ }
+{
+    if is_followed(address) {
+        return destinations_after(first, bytes);
+    }
+    let next = next_doubleword(address);
+    let second = locate(Registers { bytes: *registers }, bytes, next);
+    destinations(first, second)
+}
+
 // REF-104: 5, then the refusal by the arguments, then 9.
 pub fn judge_split(registers: &[u8; 256], bytes: usize, address: u32, v: Verdict) -> JudgedSplit
     ensures { λ j. ⌜ j ≡ judgedSplitBy (located (notReady (setupOf (recordOf (now (registers .entry)))) gives cellOf (setupOf (recordOf (now (registers .entry)))) address) bytes) (located (notReady (setupOf (recordOf (now (registers .entry)))) gives cellOf (setupOf (recordOf (now (registers .entry)))) (nextDoubleword address % 2 ^ 32)) bytes) v ⌝ }
@@ -88,10 +90,7 @@ pub fn judge_split(registers: &[u8; 256], bytes: usize, address: u32, v: Verdict
         return JudgedSplit::Refused(Refusal::NotReady);
     }
     match v {
-        Verdict::Accepted => {
-            let second = locate_after(registers, bytes, address, first);
-            destinations(first, second)
-        }
+        Verdict::Accepted => destinations_at(registers, bytes, address, first),
         Verdict::Refused(x) => JudgedSplit::Refused(x),
     }
 }

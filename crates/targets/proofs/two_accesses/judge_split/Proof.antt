@@ -7,14 +7,7 @@ returns : tie.Need-returns
 returns c = rw (← c .before .locate .ensures, c .if1 .taken)
 
 returns-2 : tie.Need-returns-2
-returns-2 c =
-    rw (
-      ← c .before .before .before .before .before .locate .ensures,
-      ne-eqb _ 0 (c .before .before .before .before .if1 .left),
-      c .before .before .enum-told .given .1,
-      ← c .before .locate-after .ensures,
-      c .destinations .ensures,
-    )
+returns-2 c = rw (← c .before .before .before .before .locate .ensures, ne-eqb _ 0 (c .before .before .before .if1 .left), c .before .enum-told .given .1, c .destinations-at .ensures)
 
 returns-3 : tie.Need-returns-3
 returns-3 c = rw (← c .before .before .before .before .locate .ensures, ne-eqb _ 0 (c .before .before .before .if1 .left), c .before .v .given .1)
@@ -26,7 +19,6 @@ judge-split-spec =
     (λ c κs. search needs)
     returns
     (λ c. search needs)
-    (λ c κs. search needs)
     (λ c κs. search needs)
     (λ c. search needs)
     returns-2
