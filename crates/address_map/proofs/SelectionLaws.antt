@@ -15,7 +15,7 @@ use Rattle.banks.specs.declared.Bank.{Bank}
 use Rattle.banks.specs.Setup.{fewestRows, Setup, bank, Bounded}
 use Rattle.banks.specs.CodeFields.{TenBits, rowsIn, enabledIn, bankIn, setupIn}
 use Rattle.banks.specs.Judge.{notReady}
-use Rattle.banks.specs.Map.{mostCells, bankAt, cells, cellInBank, share, cellsBelow, inSpan, located, placeOf}
+use Rattle.banks.specs.Map.{mostCells, bankAt, cellInBank, share, cellsBelow, inSpan, located, placeOf}
 use Rattle.address_map.specs.CodeSelection.{megabyteBits, selection, paperSelection}
 use Rattle.address_map.specs.declared.pass.Selection.{Selection}
 use Rattle.banks.proofs.FieldLaws.{cells-most}

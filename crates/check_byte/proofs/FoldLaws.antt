@@ -17,7 +17,7 @@ use Rattle.ecc.specs.Columns.{columns}
 use Rattle.ecc.specs.CheckCode.{bitAt, dataBit, taken, xorOf, checkOf}
 use Rattle.ecc.specs.Doubleword.{bytesOfNumber}
 use Rattle.check_byte.specs.CodeFold.{rotated, masked, folded, overShifted, foldedMasks, parities, gathered, foldedCheck}
-use Rattle.ecc.proofs.BitLaws.{bit-lt, bit-xor, taken-xor}
+use Rattle.ecc.proofs.BitLaws.{bit-xor, taken-xor}
 use Rattle.ecc.proofs.DoublewordLaws.{number-at}
 use Rattle.ecc.proofs.FlipLaws.{data-lt}
 

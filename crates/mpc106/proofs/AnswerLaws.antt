@@ -10,7 +10,7 @@ use Rattle.calls.specs.declared.Answer.{Answer}
 use Rattle.calls.specs.State.{State}
 use Rattle.calls.specs.Answers.{Effect, kindsIn, unlessRefused, paperAnswer, leaves}
 use Rattle.results.specs.Results.{answerNumbers, resultOf, resultOfVerdict, returned}
-use Rattle.mpc106.specs.MemoryResults.{MemoryResult, memoryResult, resultOfCall, flipResult}
+use Rattle.mpc106.specs.MemoryResults.{memoryResult, resultOfCall, flipResult}
 
 pub result-of :
     {n : ℕ} {st : State} {buffer after : List ℕ} {e : Effect} (before : List ℕ) (x : Answer) →

@@ -1,7 +1,7 @@
 -- What a call returns to a C program, and the numbers that an accepted memory call gives (FORM-7).
 use Prim.Native.Nat.{ℕ, zero, suc, _+_, _*_}
 use mathlib.Core.List.{List, [], _∷_}
-use mathlib.Core.Option.{Option, none, some}
+use mathlib.Core.Option.{none, some}
 use lib.ListN.{getD, length}
 use Rattle.refusals.specs.Paper.{Declined, Outcome, refused, given}
 use Rattle.calls.specs.declared.Kind.{Kind}

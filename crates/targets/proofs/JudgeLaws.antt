@@ -17,14 +17,14 @@ use Rattle.ecc.specs.Lending.{isWithin, isLent}
 use Rattle.calls.specs.State.{State}
 use Rattle.machine.specs.Calls.{setup, unlentAt}
 use Rattle.targets.specs.declared.Judged.{Judged}
-use Rattle.targets.specs.CodeTargets.{judgedAt, located, judgedBy, Judges}
+use Rattle.targets.specs.CodeTargets.{judgedAt, located, numberAt, judgedBy, Judges}
 
 module _ (st : State) (a : ℕ) where
   abbrev pub JudgesAt : Judged → Declined → Type 0
   JudgesAt j d = Judges j (judgedAt st a d) (cellOf (setup st) a) (st .cells)
 
   -- by what the address comes to
-  judges : (v : Verdict) → JudgesAt (judgedBy (located (notReady (setup st) gives cellOf (setup st) a) (length (st .cells))) v) (paperVerdict v)
+  judges : (v : Verdict) → JudgesAt (judgedBy (numberAt (st .registers) a (length (st .cells))) v) (paperVerdict v)
   unfolding judgedAt notReady unlentAt isLent
   judges v = go (not (ready (setup st))) (cellOf (setup st) a) v
     where
@@ -41,6 +41,6 @@ module _ (st : State) (a : ℕ) where
       go false (some k) (verdict.Refused x) = byCases (isWithin (length (st .cells)) k) (λ t. rw (t, ne-eqb (3 + k) 0 (omega arith))) (λ t. rw t)
 
   -- the judgement as it was matched
-  pub judged-as : (v : Verdict) (e : Declined) {j i : Judged} → j ≡ judgedBy (located (notReady (setup st) gives cellOf (setup st) a) (length (st .cells))) v
+  pub judged-as : (v : Verdict) (e : Declined) {j i : Judged} → j ≡ judgedBy (numberAt (st .registers) a (length (st .cells))) v
       → j ≡ i → paperVerdict v ≡ e → JudgesAt i e
   judged-as v e q m n = rw (← m, q, ← n) (judges v)

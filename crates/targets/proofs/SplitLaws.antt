@@ -29,7 +29,7 @@ use Rattle.calls.proofs.SpanLaws.{count-fits}
 use Rattle.calls.proofs.SplitLaws.{split-rest, room-ends, next-at}
 use Rattle.machine.specs.Calls.{setup, unlentAt}
 use Rattle.targets.specs.declared.JudgedSplit.{JudgedSplit}
-use Rattle.targets.specs.CodeTargets.{judgedSplitAt, located, numberAfter, judgedSplitBy, LentAt, Placed, JudgesSplit}
+use Rattle.targets.specs.CodeTargets.{judgedSplitAt, located, numberAt, numberAfter, judgedSplitBy, LentAt, Placed, JudgesSplit}
 
 -- a cell stays lent while as many bytes are
 pub still-lent : (xs ys : List ℕ) (o : Option ℕ) → length ys ≡ length xs → LentAt o xs → LentAt o ys
@@ -58,8 +58,7 @@ module _ (r : Registers) (a : ℕ) (l : a < 2 ^ 32) (bytes : ℕ) (m : a / 8 % 2
       let out = leb-false (9 * (k + 1) + 9) bytes t in
       byCases (isWithin bytes k) (λ u. rw (t, u, le-ltb (3 + k) 3 (omega arith), lt-ltb (bytes - 9 * (3 + k - 2)) 9 (let lent = leb-true (9 * k + 9) bytes u in omega arith))) (λ u. rw (t, u))))
 
-  pub located-after : (x : ℕ) → x ≡ located (notReady (setupOf r) gives cellOf (setupOf r) a) bytes
-      → numberAfter x bytes ≡ located (notReady (setupOf r) gives cellOf (setupOf r) behind) bytes
+  pub located-after : (x : ℕ) → x ≡ numberAt r a bytes → numberAfter x bytes ≡ numberAt r behind bytes
   unfolding notReady
   located-after x e =
       let s = setupOf r in
@@ -143,7 +142,7 @@ module _ (st : State) (a n : ℕ) (t : crosses a n ≡ true) where
 
   -- what the code comes to
   split-judges : (v : Verdict) → paperVerdict v ≡ byCount a n
-      → JudgesSplit (judgedSplitBy (located (notReady (setup st) gives cellOf (setup st) a) (length (st .cells))) (located (notReady (setup st) gives cellOf (setup st) (nextDoubleword a % 2 ^ 32)) (length (st .cells))) v) (judgedSplitAt st a (byCount a n)) st a n
+      → JudgesSplit (judgedSplitBy (numberAt (st .registers) a (length (st .cells))) (numberAt (st .registers) (nextDoubleword a % 2 ^ 32) (length (st .cells))) v) (judgedSplitAt st a (byCount a n)) st a n
   unfolding judgedSplitAt notReady
   split-judges v e = go (not (ready (setup st))) refl v e
     where
@@ -168,6 +167,6 @@ module _ (st : State) (a n : ℕ) (t : crosses a n ≡ true) where
 
   -- the judgement as it was matched
   pub split-judged-as : (v : Verdict) {j i : JudgedSplit}
-      → j ≡ judgedSplitBy (located (notReady (setup st) gives cellOf (setup st) a) (length (st .cells))) (located (notReady (setup st) gives cellOf (setup st) (nextDoubleword a % 2 ^ 32)) (length (st .cells))) v
+      → j ≡ judgedSplitBy (numberAt (st .registers) a (length (st .cells))) (numberAt (st .registers) (nextDoubleword a % 2 ^ 32) (length (st .cells))) v
       → j ≡ i → paperVerdict v ≡ byCount a n → JudgesSplit i (judgedSplitAt st a (byCount a n)) st a n
   split-judged-as v q m e = rw (← m, q) (split-judges v e)

@@ -5,11 +5,13 @@ use mathlib.Core.Bool.{true, cond, _&&_, _||_}
 use mathlib.Core.List.{List}
 use mathlib.Core.Option.{Option, none, some}
 use lib.Dec.{eqb, ltb, leb}
-use Rattle.refusals.specs.Paper.{paper, Declined, Outcome, refused, given, _else_}
+use Rattle.refusals.specs.Paper.{paper, Declined, Outcome, refused, given, _gives_, _else_}
 use Rattle.refusals.specs.declared.Refusal.{Refusal}
 use Rattle.refusals.specs.declared.Refusal.the-variants as refusal
 use Rattle.refusals.specs.declared.Verdict.{Verdict}
 use Rattle.refusals.specs.declared.Verdict.the-variants as verdict
+use Rattle.registers.specs.declared.Registers.{Registers}
+use Rattle.banks.specs.Setup.{setupOf}
 use Rattle.banks.specs.Judge.{notReady}
 use Rattle.banks.specs.Map.{cellOf}
 use Rattle.ecc.specs.Lending.{isWithin, isLent}
@@ -36,6 +38,10 @@ abbrev pub located : Outcome (Option ℕ) → ℕ → ℕ
 located (refused n) bytes = 0
 located (given none) bytes = 1
 located (given (some k)) bytes = placeOf k bytes
+
+-- the same of an address in a record
+abbrev pub numberAt : Registers → ℕ → ℕ → ℕ
+numberAt r a bytes = located (notReady (setupOf r) gives cellOf (setupOf r) a) bytes
 
 -- what such a number means if no argument is refused
 abbrev pub destinationBy : ℕ → Judged

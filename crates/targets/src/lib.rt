@@ -1,12 +1,8 @@
 // Where a call goes, if so many bytes of cells are lent: refused, without a bank, or to a cell that is wholly lent; of a split, where both of its
 // accesses go. All of it is found before a call changes anything.
 ghost use mathlib.Core.Path.{_≡_};
-ghost use Rattle.refusals.specs.Paper.{_gives_};
 ghost use Rattle.registers.specs.Record.{recordOf};
-ghost use Rattle.banks.specs.Setup.{setupOf};
-ghost use Rattle.banks.specs.Judge.{notReady};
-ghost use Rattle.banks.specs.Map.{cellOf};
-ghost use Rattle.targets.specs.CodeTargets.{located, destinationBy, judgedBy};
+ghost use Rattle.targets.specs.CodeTargets.{numberAt, destinationBy, judgedBy};
 use crate::locate::FIRST_CELL;
 use crate::locate::NOT_LENT;
 use crate::locate::NOT_READY;
@@ -54,7 +50,7 @@ fn destination(x: usize) -> Judged
 
 // REF-104: 5, then the refusal by the arguments, then 9.
 pub fn judge(registers: &[u8; 256], bytes: usize, address: u32, v: Verdict) -> Judged
-    ensures { λ j. ⌜ j ≡ judgedBy (located (notReady (setupOf (recordOf (now (registers .entry)))) gives cellOf (setupOf (recordOf (now (registers .entry)))) address) bytes) v ⌝ }
+    ensures { λ j. ⌜ j ≡ judgedBy (numberAt (recordOf (now (registers .entry))) address bytes) v ⌝ }
 {
     let x = locate(Registers { bytes: *registers }, bytes, address);
     if x == NOT_READY {

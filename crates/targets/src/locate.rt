@@ -1,10 +1,6 @@
 // What an address comes to, as a number.
 ghost use mathlib.Core.Path.{_≡_};
-ghost use Rattle.refusals.specs.Paper.{_gives_};
-ghost use Rattle.banks.specs.Setup.{setupOf};
-ghost use Rattle.banks.specs.Judge.{notReady};
-ghost use Rattle.banks.specs.Map.{cellOf};
-ghost use Rattle.targets.specs.CodeTargets.{placeOf, located};
+ghost use Rattle.targets.specs.CodeTargets.{placeOf, numberAt};
 use banks::Target;
 use registers::Registers;
 
@@ -30,7 +26,7 @@ fn place(k: u32, bytes: usize) -> usize
 
 // One number for all that an address can come to: the calls share this function, and a number is returned in a register.
 pub(crate) fn locate(r: Registers, bytes: usize, address: u32) -> usize
-    ensures { λ x. ⌜ x ≡ located (notReady (setupOf r) gives cellOf (setupOf r) address) bytes ⌝ }
+    ensures { λ x. ⌜ x ≡ numberAt r address bytes ⌝ }
 {
     let found = address_map::find_cell(r, address);
     match found {

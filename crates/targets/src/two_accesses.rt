@@ -2,13 +2,9 @@
 ghost use mathlib.Core.Path.{_≡_};
 ghost use Prim.Native.Nat.{_-_, _*_, _/_, _%_, _^_, _≤_};
 ghost use lib.Dec.{ltb};
-ghost use Rattle.refusals.specs.Paper.{_gives_};
 ghost use Rattle.registers.specs.Record.{recordOf};
-ghost use Rattle.banks.specs.Setup.{setupOf};
-ghost use Rattle.banks.specs.Judge.{notReady};
-ghost use Rattle.banks.specs.Map.{cellOf};
 ghost use Rattle.calls.specs.Calls.{nextDoubleword};
-ghost use Rattle.targets.specs.CodeTargets.{located, numberAfter, selectedBy, destinationsBy, judgedSplitBy};
+ghost use Rattle.targets.specs.CodeTargets.{numberAt, numberAfter, selectedBy, destinationsBy, judgedSplitBy};
 use crate::JudgedSplit;
 use crate::Selected;
 use crate::locate::FIRST_CELL;
@@ -70,8 +66,8 @@ fn destinations_after(first: usize, bytes: usize) -> JudgedSplit
 // Where both accesses go, if the arguments are not refused and `locate` returned `first` for the address. Where both doublewords lie in one megabyte
 // the record is neither judged nor copied again.
 fn destinations_at(registers: &[u8; 256], bytes: usize, address: u32, first: usize) -> JudgedSplit
-    requires { ⌜ first ≡ located (notReady (setupOf (recordOf (now registers))) gives cellOf (setupOf (recordOf (now registers))) address) bytes ⌝ }
-    ensures { λ j. ⌜ j ≡ destinationsBy first (located (notReady (setupOf (recordOf (now (registers .entry)))) gives cellOf (setupOf (recordOf (now (registers .entry)))) (nextDoubleword address % 2 ^ 32)) bytes) ⌝ }
+    requires { ⌜ first ≡ numberAt (recordOf (now registers)) address bytes ⌝ }
+    ensures { λ j. ⌜ j ≡ destinationsBy first (numberAt (recordOf (now (registers .entry))) (nextDoubleword address % 2 ^ 32) bytes) ⌝ }
 {
     if is_followed(address) {
         return destinations_after(first, bytes);
@@ -83,7 +79,7 @@ fn destinations_at(registers: &[u8; 256], bytes: usize, address: u32, first: usi
 
 // REF-104: 5, then the refusal by the arguments, then 9.
 pub fn judge_split(registers: &[u8; 256], bytes: usize, address: u32, v: Verdict) -> JudgedSplit
-    ensures { λ j. ⌜ j ≡ judgedSplitBy (located (notReady (setupOf (recordOf (now (registers .entry)))) gives cellOf (setupOf (recordOf (now (registers .entry)))) address) bytes) (located (notReady (setupOf (recordOf (now (registers .entry)))) gives cellOf (setupOf (recordOf (now (registers .entry)))) (nextDoubleword address % 2 ^ 32)) bytes) v ⌝ }
+    ensures { λ j. ⌜ j ≡ judgedSplitBy (numberAt (recordOf (now (registers .entry))) address bytes) (numberAt (recordOf (now (registers .entry))) (nextDoubleword address % 2 ^ 32) bytes) v ⌝ }
 {
     let first = locate(Registers { bytes: *registers }, bytes, address);
     if first == NOT_READY {

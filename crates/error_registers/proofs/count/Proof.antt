@@ -1,4 +1,3 @@
-use native.Mathlib.Omega.{arith}
 use borrow.Author.Tests.{lt-ltb, le-ltb}
 use Rattle.error_registers.specs.Errors.{counted, rose}
 use borrow.Author.Needs.{needs}
