@@ -1,5 +1,5 @@
-// Byte lanes, the eight bytes of the 64-bit data path: they are copied between a doubleword, a number with byte 0 lowest, and a slice that a caller
-// lends. The slice may have any length; where it does not suit, nothing is copied.
+// Copies bytes between a doubleword, a number with byte 0 lowest, and a slice that a caller lends. The slice may have any length; where it does not
+// suit, nothing is copied. Each byte of a doubleword has a lane of the data bus: hence the name.
 mod into;
 mod out;
 mod whole;

@@ -34,8 +34,8 @@ fn over_shifted(x: u64, n: u64) -> u64
     x ^ x >> n
 }
 
-// A number whose byte j has the parity of check bit j. The upper halves are selected: of the lower ones the compiler would see that a rotation takes
-// bits of two numbers, and make a slow shift of both.
+// A number whose byte j has the parity of check bit j. The upper halves are selected: with the lower ones the compiler would see that the
+// bits that a rotation brings round are those of `a` alone, and make of it a slow shift of two numbers.
 fn folded_masks(x: u64) -> u64
     ensures { λ r. ⌜ r ≡ foldedMasks x ⌝ }
 {

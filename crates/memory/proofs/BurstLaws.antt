@@ -15,7 +15,7 @@ use Rattle.calls.specs.Calls.{MemoryCall, burstRead, burstWrite, Access, readIn
 use Rattle.calls.specs.Spans.{byBurst, byArguments, bySpans, byCall, missed}
 use Rattle.calls.specs.State.{State, state}
 use Rattle.machine.specs.Calls.{setup, spansOf, unlentAt, unlent, refusal, onTarget, accessAt, accesses, performed, called}
-use Rattle.targets.specs.CodeTargets.{judgedAt}
+use Rattle.targets.specs.Targets.{judgedAt}
 use Rattle.cache_line.specs.CodeLine.{lastDoubleword}
 use Rattle.memory.proofs.CallLaws.{called-accepted}
 use Rattle.memory.proofs.AccessLaws.{Does, same-setup, one-more, no-more}

@@ -22,7 +22,7 @@ use Rattle.calls.specs.Answers.{Effect, effectOf}
 use Rattle.error_registers.specs.Errors.{reported}
 use Rattle.machine.specs.Calls.{setup, spansOf, unlentAt, unlent, refusal, onTarget, accessAt, access, accesses, performed, memoryCall, called}
 use Rattle.machine.proofs.InTurnLaws.{single-parts}
-use Rattle.targets.specs.CodeTargets.{judgedAt}
+use Rattle.targets.specs.Targets.{judgedAt}
 
 -- a refused call leaves everything as it was
 abbrev pub unchanged : State → List ℕ → List ℕ → Effect

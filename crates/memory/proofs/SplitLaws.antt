@@ -19,20 +19,20 @@ use Rattle.calls.specs.Spans.{byCount, byArguments, bySpans, byCall}
 use Rattle.calls.specs.State.{State}
 use Rattle.calls.proofs.SplitLaws.{split-rest, room-ends}
 use Rattle.machine.specs.Calls.{setup, spansOf, unlentAt, unlent, refusal}
-use Rattle.targets.specs.CodeTargets.{judgedSplitAt}
+use Rattle.targets.specs.Targets.{judgedSplitAt}
 
 module _ (st : State) (a : ℕ) where
   split-refusal : (c : MemoryCall) (x y : Access) → parts c ≡ x ∷ y ∷ [] → addressOf x ≡ a → addressOf y ≡ nextDoubleword a → bySpans (spansOf (setup st)) c ≡ none
-      → refusal st c ≡ judgedSplitAt st a (byArguments c)
+      → refusal st c ≡ judgedSplitAt st a (nextDoubleword a) (byArguments c)
   unfolding refusal byCall unlent judgedSplitAt
   split-refusal c x y p e f h =
       rw (p, e, f, h, else-none (byArguments c), else-none (unlentAt (cellOf (setup st) (nextDoubleword a)) (st .cells)))
 
-  pub read-split-refusal : (n : ℕ) → crosses a n ≡ true → refusal st (read a n) ≡ judgedSplitAt st a (byCount a n)
+  pub read-split-refusal : (n : ℕ) → crosses a n ≡ true → refusal st (read a n) ≡ judgedSplitAt st a (nextDoubleword a) (byCount a n)
   unfolding parts bySpans byArguments
   read-split-refusal n t = split-refusal (read a n) (readIn a (room a)) (readIn (nextDoubleword a) (n - room a)) (rw t) refl refl refl
 
-  pub write-split-refusal : (bs : List ℕ) → crosses a (length bs) ≡ true → refusal st (write a bs) ≡ judgedSplitAt st a (byCount a (length bs))
+  pub write-split-refusal : (bs : List ℕ) → crosses a (length bs) ≡ true → refusal st (write a bs) ≡ judgedSplitAt st a (nextDoubleword a) (byCount a (length bs))
   unfolding parts bySpans byArguments
   write-split-refusal bs t = split-refusal (write a bs) (writeIn a (take (room a) bs)) (writeIn (nextDoubleword a) (drop (room a) bs)) (rw t) refl refl refl
 

@@ -138,12 +138,7 @@ pub fn burst_read_in_place(
     ensures { λ x. ⌜ leaves x (state (recordOf (now (registers .exit))) (now (cells .entry))) (now (buffer .exit)) ≡ burstReadCall columns (state (recordOf (now (registers .entry))) (now (cells .entry))) address (now (buffer .entry)) ⌝ }
 {
     let end = last_doubleword(address);
-    let judged = judge(
-        registers,
-        cells.len(),
-        end,
-        judge_burst(address, buffer.len()),
-    );
+    let judged = judge(registers, cells, end, judge_burst(address, buffer.len()));
     match judged {
         Judged::Refused(x) => refuse(x),
         Judged::NoBank => {

@@ -66,12 +66,7 @@ pub fn burst_write_in_place(
     ensures { λ x. ⌜ leaves x (state (recordOf (now (registers .exit))) (now (cells .exit))) [] ≡ burstWriteCall columns (state (recordOf (now (registers .entry))) (now (cells .entry))) address (now (bytes .entry)) ⌝ }
 {
     let end = last_doubleword(address);
-    let judged = judge(
-        registers,
-        cells.len(),
-        end,
-        judge_burst(address, bytes.len()),
-    );
+    let judged = judge(registers, cells, end, judge_burst(address, bytes.len()));
     match judged {
         Judged::Refused(x) => refuse(x),
         Judged::NoBank => miss_beats(registers, address),

@@ -69,7 +69,7 @@ pub fn read_in_place(
     if crosses_end(address, buffer.len()) {
         return read_split(registers, cells, address, buffer);
     }
-    let judged = judge(registers, cells.len(), address, judge_inside(buffer.len()));
+    let judged = judge(registers, cells, address, judge_inside(buffer.len()));
     match judged {
         Judged::Refused(x) => refuse(x),
         Judged::NoBank => {
@@ -94,7 +94,7 @@ pub fn write_in_place(
     if crosses_end(address, bytes.len()) {
         return write_split(registers, cells, address, bytes);
     }
-    let judged = judge(registers, cells.len(), address, judge_inside(bytes.len()));
+    let judged = judge(registers, cells, address, judge_inside(bytes.len()));
     match judged {
         Judged::Refused(x) => refuse(x),
         Judged::NoBank => report(registers, Kind::NoBank, address),
@@ -109,7 +109,7 @@ pub fn write_in_place(
 pub fn flip_in_place(registers: &[u8; 256], cells: &mut [u8], address: u32, bit: u32) -> Answer
     ensures { λ x. ⌜ leaves x (state (recordOf (now (registers .entry))) (now (cells .exit))) [] ≡ flipCall columns (state (recordOf (now (registers .entry))) (now (cells .entry))) address bit ⌝ }
 {
-    let judged = judge(registers, cells.len(), address, judge_bit(bit));
+    let judged = judge(registers, cells, address, judge_bit(bit));
     match judged {
         Judged::Refused(x) => refuse(x),
         Judged::NoBank => refuse(Refusal::FlipWithoutBank),
@@ -120,7 +120,7 @@ pub fn flip_in_place(registers: &[u8; 256], cells: &mut [u8], address: u32, bit:
 pub fn scrub_in_place(registers: &mut [u8; 256], cells: &mut [u8], address: u32) -> Answer
     ensures { λ x. ⌜ leaves x (state (recordOf (now (registers .exit))) (now (cells .exit))) [] ≡ scrubCall columns (state (recordOf (now (registers .entry))) (now (cells .entry))) address ⌝ }
 {
-    let judged = judge(registers, cells.len(), address, Verdict::Accepted);
+    let judged = judge(registers, cells, address, Verdict::Accepted);
     match judged {
         Judged::Refused(x) => refuse(x),
         Judged::NoBank => report(registers, Kind::NoBank, address),

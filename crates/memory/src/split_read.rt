@@ -14,7 +14,8 @@ ghost use Rattle.calls.specs.Calls.{read, crosses, room, parts};
 ghost use Rattle.calls.specs.State.{state};
 ghost use Rattle.calls.specs.Answers.{paperAnswer, leaves, effectOf};
 ghost use Rattle.machine.specs.Calls.{performed, readCall};
-ghost use Rattle.targets.specs.CodeTargets.{targetOf, Placed};
+ghost use Rattle.targets.specs.Targets.{targetOf};
+ghost use Rattle.targets.specs.CodeTargets.{Placed};
 ghost use Rattle.memory.specs.CodeFetched.{CleanPair};
 use crate::access::LENT;
 use crate::access::NO_COLUMNS;
@@ -109,7 +110,7 @@ pub(crate) fn read_split(
     ensures { λ x. ⌜ leaves x (state (recordOf (now (registers .exit))) (now (cells .entry))) (now (buffer .exit)) ≡ readCall columns (state (recordOf (now (registers .entry))) (now (cells .entry))) address (now (buffer .entry)) ⌝ }
 {
     let verdict = judge_count(address, buffer.len());
-    let judged = judge_split(registers, cells.len(), address, verdict);
+    let judged = judge_split(registers, cells, address, verdict);
     match judged {
         JudgedSplit::Refused(x) => refuse(x),
         JudgedSplit::Cells(k, l) => read_cells(registers, cells, k, l, address, buffer),

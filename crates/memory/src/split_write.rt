@@ -13,7 +13,8 @@ ghost use Rattle.calls.specs.Calls.{write, writeIn, crosses, parts, got};
 ghost use Rattle.calls.specs.State.{state};
 ghost use Rattle.calls.specs.Answers.{leaves, effectOf};
 ghost use Rattle.machine.specs.Calls.{accessAt, performed, writeCall};
-ghost use Rattle.targets.specs.CodeTargets.{targetOf, LentAt, Placed};
+ghost use Rattle.targets.specs.Targets.{targetOf};
+ghost use Rattle.targets.specs.CodeTargets.{LentAt, Placed};
 ghost use Rattle.memory.specs.CodeFetched.{CleanPair};
 use crate::access::LENT;
 use crate::access::NO_COLUMNS;
@@ -35,7 +36,7 @@ use targets::JudgedSplit;
 use targets::Selected;
 use targets::judge_split;
 
-// A short write to cell k.
+// A short write to cell k. It is not `write_cell`: with a second caller the compiler would no longer merge that one into the single write.
 fn write_short(
     registers: &mut [u8; 256],
     cells: &mut [u8],
@@ -153,7 +154,7 @@ pub(crate) fn write_split(
     ensures { λ x. ⌜ leaves x (state (recordOf (now (registers .exit))) (now (cells .exit))) [] ≡ writeCall columns (state (recordOf (now (registers .entry))) (now (cells .entry))) address (now (bytes .entry)) ⌝ }
 {
     let verdict = judge_count(address, bytes.len());
-    let judged = judge_split(registers, cells.len(), address, verdict);
+    let judged = judge_split(registers, cells, address, verdict);
     match judged {
         JudgedSplit::Refused(x) => refuse(x),
         JudgedSplit::Cells(k, l) => write_cells(registers, cells, k, l, address, bytes),

@@ -1,19 +1,19 @@
 -- What a split comes to: where its two accesses go, and its refusal.
 use Prim.Native.Nat.{ℕ, _+_, _-_, _*_, _/_, _%_, _^_, _≤_, _<_}
-use mathlib.Core.Path.{_≡_, refl, sym, _∙_}
+use mathlib.Core.Path.{_≡_, refl, sym, ap, _∙_}
 use mathlib.Core.Bool.{Bool, true, false, not}
 use mathlib.Core.Option.{Option, none, some}
-use mathlib.Core.List.{List, [], _∷_}
+use mathlib.Core.List.{[], _∷_}
 use native.Mathlib.Omega.{arith}
 use borrow.Author.Tests.{le-leb, leb-true, leb-false, le-ltb, lt-ltb, ne-eqb}
 use lib.Dec.{eqb}
 use lib.ListN.{length}
 use Rattle.basics.proofs.Bools.{not-of}
 use Rattle.basics.proofs.RangeLaws.{byCases}
-use Rattle.refusals.specs.Paper.{Declined, refuse, _else_, given, _gives_, paperVerdict}
+use Rattle.refusals.specs.Paper.{Declined, refuse, _else_, given, _gives_, paper, paperVerdict}
 use Rattle.refusals.specs.declared.Verdict.{Verdict}
 use Rattle.refusals.specs.declared.Verdict.the-variants as verdict
-use Rattle.refusals.proofs.ChainLaws.{cause-fails}
+use Rattle.refusals.proofs.ChainLaws.{else-left, else-right, cause-fails, gives-given, gives-refused}
 use Rattle.registers.specs.declared.Registers.{Registers}
 use Rattle.banks.specs.Setup.{setupOf}
 use Rattle.banks.specs.Judge.{ready, notReady}
@@ -21,7 +21,6 @@ use Rattle.banks.specs.Map.{cellOf}
 use Rattle.banks.proofs.MapLaws.{map-laws}
 use Rattle.banks.proofs.MegabyteLaws.{setup-large, inMegabyte, same-megabyte}
 use Rattle.ecc.specs.Lending.{isWithin, isLent}
-use Rattle.ecc.proofs.CellLaws.{lent-same}
 use Rattle.calls.specs.Calls.{crosses, nextDoubleword}
 use Rattle.calls.specs.Spans.{byCount}
 use Rattle.calls.specs.State.{State}
@@ -29,12 +28,10 @@ use Rattle.calls.proofs.SpanLaws.{count-fits}
 use Rattle.calls.proofs.SplitLaws.{split-rest, room-ends, next-at}
 use Rattle.machine.specs.Calls.{setup, unlentAt}
 use Rattle.targets.specs.declared.JudgedSplit.{JudgedSplit}
-use Rattle.targets.specs.CodeTargets.{judgedSplitAt, located, numberAt, numberAfter, judgedSplitBy, LentAt, Placed, JudgesSplit}
-
--- a cell stays lent while as many bytes are
-pub still-lent : (xs ys : List ℕ) (o : Option ℕ) → length ys ≡ length xs → LentAt o xs → LentAt o ys
-still-lent xs ys none e h = tt
-still-lent xs ys (some k) e h = lent-same ys xs k e ∙ h
+use Rattle.targets.specs.declared.JudgedSplit.the-variants as two
+use Rattle.targets.specs.Targets.{paperSplit, targetOf, judgedSplitAt}
+use Rattle.targets.specs.CodeTargets.{located, numberAt, numberAfter, judgedSplitBy, Placed, JudgesSplit}
+use Rattle.targets.proofs.LentLaws.{lent-at}
 
 -- ---- the cell of the doubleword behind, in the same megabyte
 
@@ -88,13 +85,9 @@ in-range a n t e =
 pub next-exact : (a m : ℕ) → nextDoubleword a < 2 ^ 32 → m ≡ nextDoubleword a % 2 ^ 32 → m ≡ nextDoubleword a
 next-exact a m l e = omega arith
 
--- a cell that 9 does not refuse is lent
-lent-at : (o : Option ℕ) (cells : List ℕ) → unlentAt o cells ≡ none → LentAt o cells
-unfolding unlentAt
-lent-at none cells u = tt
-lent-at (some k) cells u = not-of (isLent cells k) (cause-fails (not (isLent cells k)) (9 ∷ []) u)
+-- ---- what the code comes to
 
-module _ (st : State) (a n : ℕ) (t : crosses a n ≡ true) where
+module _ (st : State) (a b : ℕ) where
   abbrev number : Option ℕ → ℕ
   number o = located (given o) (length (st .cells))
 
@@ -102,71 +95,95 @@ module _ (st : State) (a n : ℕ) (t : crosses a n ≡ true) where
   number-ready none = refl
   number-ready (some k) = byCases (isWithin (length (st .cells)) k) (λ u. rw (u, ne-eqb (3 + k) 0 (omega arith))) (λ u. rw u)
 
-  module _ (on : notReady (setup st) ≡ none) (fit : byCount a n ≡ none) (o p : Option ℕ) (f : cellOf (setup st) a ≡ o) (g : cellOf (setup st) (nextDoubleword a) ≡ p) where
-    -- the two doublewords have different cells
-    cells-apart : (k : ℕ) → o ≡ some k → p ≡ some k → ⊥
-    unfolding notReady
-    cells-apart k u v =
-        let map = map-laws (st .registers) (not-of (ready (setup st)) (cause-fails (not (ready (setup st))) (5 ∷ []) on)) in
-        absurd (omega (arith, map .apart a (nextDoubleword a) k (f ∙ u) (g ∙ v), next-at a))
-
-    placed : LentAt o (st .cells) → LentAt p (st .cells) → Placed st a o p × (n ≤ 8)
-    placed i j = (record { in-range = in-range a n t fit; first = f; first-lent = i; second = g; second-lent = j; apart = cells-apart }, count-fits a n fit .few)
-
-  -- two accesses whose arguments are accepted, by their cells
-  abbrev Goes : Option ℕ → Option ℕ → Type 0
-  Goes o p = JudgesSplit (judgedSplitBy (number o) (number p) verdict.Accepted) (unlentAt o (st .cells) else unlentAt p (st .cells)) st a n
-
-  goes : (o p : Option ℕ) → (LentAt o (st .cells) → LentAt p (st .cells) → Placed st a o p × (n ≤ 8)) → Goes o p
-  unfolding unlentAt isLent
-  goes none none place = let q = place tt tt in (refl, q .0, q .1)
-  goes none (some l) place =
-      let back : 3 + l - 3 ≡ l = omega arith in
-      byCases (isWithin (length (st .cells)) l)
-      (λ v. let q = place tt v in rw (v, le-leb 3 (3 + l) (omega arith), ne-eqb (3 + l) 2 (omega arith), back) (refl, q .0, q .1))
-      (λ v. rw v)
-  goes (some k) none place =
-      let back : 3 + k - 3 ≡ k = omega arith in
-      byCases (isWithin (length (st .cells)) k)
-      (λ u. let q = place u tt in rw (u, le-leb 3 (3 + k) (omega arith), ne-eqb (3 + k) 0 (omega arith), ne-eqb (3 + k) 2 (omega arith), back) (refl, q .0, q .1))
-      (λ u. rw u)
-  goes (some k) (some l) place =
-      let back : 3 + k - 3 ≡ k = omega arith in
-      let back-next : 3 + l - 3 ≡ l = omega arith in
-      byCases (isWithin (length (st .cells)) k)
-      (λ u.
-      byCases (isWithin (length (st .cells)) l)
-      (λ v. let q = place u v in rw (u, v, le-leb 3 (3 + k) (omega arith), le-leb 3 (3 + l) (omega arith), ne-eqb (3 + k) 0 (omega arith), back, back-next) (refl, q .0, q .1))
-      (λ v. rw (u, v, le-leb 3 (3 + k) (omega arith), ne-eqb (3 + k) 0 (omega arith), ne-eqb (3 + k) 2 (omega arith))))
-      (λ u. rw u)
-
-  -- what the code comes to
-  split-judges : (v : Verdict) → paperVerdict v ≡ byCount a n
-      → JudgesSplit (judgedSplitBy (numberAt (st .registers) a (length (st .cells))) (numberAt (st .registers) (nextDoubleword a % 2 ^ 32) (length (st .cells))) v) (judgedSplitAt st a (byCount a n)) st a n
-  unfolding judgedSplitAt notReady
-  split-judges v e = go (not (ready (setup st))) refl v e
+  -- by what both addresses come to
+  pub split-paper : (v : Verdict) → paperSplit (judgedSplitBy (numberAt (st .registers) a (length (st .cells))) (numberAt (st .registers) b (length (st .cells))) v)
+      ≡ (judgedSplitAt st a b (paperVerdict v) gives (cellOf (setup st) a, cellOf (setup st) b))
+  unfolding judgedSplitAt notReady unlentAt isLent
+  split-paper v = go (not (ready (setup st))) (cellOf (setup st) a) (cellOf (setup st) b) v
     where
-      o : Option ℕ
-      o = cellOf (setup st) a
+      Goes : Bool → Option ℕ → Option ℕ → Verdict → Type 0
+      Goes t o p w =
+          paperSplit (judgedSplitBy (located (refuse t (5 ∷ []) gives o) (length (st .cells))) (located (refuse t (5 ∷ []) gives p) (length (st .cells))) w)
+          ≡ ((refuse t (5 ∷ []) else paperVerdict w else unlentAt o (st .cells) else unlentAt p (st .cells)) gives (o, p))
 
-      p : ℕ → Option ℕ
-      p b = cellOf (setup st) b
+      both : (o p : Option ℕ) → Goes false o p verdict.Accepted
+      both none none = refl
+      both none (some l) =
+          let back : 3 + l - 3 ≡ l = omega arith in
+          byCases (isWithin (length (st .cells)) l) (λ u. rw (u, le-leb 3 (3 + l) (omega arith), ne-eqb (3 + l) 2 (omega arith), back)) (λ u. rw u)
+      both (some k) none =
+          let back : 3 + k - 3 ≡ k = omega arith in
+          byCases (isWithin (length (st .cells)) k) (λ u. rw (u, le-leb 3 (3 + k) (omega arith), ne-eqb (3 + k) 0 (omega arith), ne-eqb (3 + k) 2 (omega arith), back)) (λ u. rw u)
+      both (some k) (some l) =
+          let back : 3 + k - 3 ≡ k = omega arith in
+          let back-next : 3 + l - 3 ≡ l = omega arith in
+          byCases (isWithin (length (st .cells)) k)
+          (λ u.
+          byCases (isWithin (length (st .cells)) l) (λ w. rw (u, w, le-leb 3 (3 + k) (omega arith), le-leb 3 (3 + l) (omega arith), ne-eqb (3 + k) 0 (omega arith), back, back-next))
+          (λ w. rw (u, w, le-leb 3 (3 + k) (omega arith), ne-eqb (3 + k) 0 (omega arith), ne-eqb (3 + k) 2 (omega arith))))
+          (λ u. rw u)
 
-      Holds : Bool → Verdict → Type 0
-      Holds b w =
-          JudgesSplit (judgedSplitBy (located (refuse b (5 ∷ []) gives o) (length (st .cells))) (located (refuse b (5 ∷ []) gives p (nextDoubleword a % 2 ^ 32)) (length (st .cells))) w)
-          (refuse b (5 ∷ []) else byCount a n else unlentAt o (st .cells) else unlentAt (p (nextDoubleword a)) (st .cells)) st a n
+      go : (t : Bool) (o p : Option ℕ) (w : Verdict) → Goes t o p w
+      go true o p w = refl
+      go false o p verdict.Accepted = both o p
+      go false o p (verdict.Refused x) = rw (number-ready o)
 
-      go : (b : Bool) → b ≡ not (ready (setup st)) → (w : Verdict) → paperVerdict w ≡ byCount a n → Holds b w
-      go true h w f = refl
-      go false h verdict.Accepted f =
-          let fit = sym f in
-          let on : notReady (setup st) ≡ none = rw (← h) in
-          rw (← f, next-exact a _ (in-range a n t fit) refl) (goes o (p (nextDoubleword a)) (placed on fit o (p (nextDoubleword a)) refl refl))
-      go false h (verdict.Refused z) f = rw (← f, number-ready o)
+-- ---- what a judgement says
+
+module _ (st : State) (a n : ℕ) (t : crosses a n ≡ true) where
+  abbrev second-at : ℕ
+  second-at = nextDoubleword a % 2 ^ 32
+
+  -- the cells of both accesses
+  abbrev cells-at : Option ℕ × Option ℕ
+  cells-at = (cellOf (setup st) a, cellOf (setup st) second-at)
+
+  -- where the arguments refuse nothing the second access is at the next doubleword
+  same-second : (d : Declined) → d ≡ byCount a n → judgedSplitAt st a second-at d ≡ judgedSplitAt st a (nextDoubleword a) d
+  unfolding judgedSplitAt
+  same-second none e = rw (next-exact a _ (in-range a n t (sym e)) refl)
+  same-second (some x) e = refl
+
+  module _ (o p : Option ℕ) (e : (judgedSplitAt st a second-at (byCount a n) gives cells-at) ≡ given (o, p)) where
+    told : (judgedSplitAt st a second-at (byCount a n) ≡ none) × (cells-at ≡ (o, p))
+    told = gives-given (judgedSplitAt st a second-at (byCount a n)) cells-at (o, p) e
+
+    free : judgedSplitAt st a (nextDoubleword a) (byCount a n) ≡ none
+    free = sym (same-second (byCount a n) refl) ∙ told .0
+
+    placed : Placed st a o p × (n ≤ 8)
+    unfolding judgedSplitAt notReady
+    placed =
+        let cells = st .cells in
+        let x = cellOf (setup st) a in
+        let y = cellOf (setup st) (nextDoubleword a) in
+        let lent = unlentAt x cells else unlentAt y cells in
+        let on = else-left (notReady (setup st)) (byCount a n else lent) free in
+        let rest = else-right (notReady (setup st)) (byCount a n else lent) free in
+        let fit = else-left (byCount a n) lent rest in
+        let both = else-right (byCount a n) lent rest in
+        let exact = next-exact a _ (in-range a n t fit) refl in
+        let f : x ≡ o = ap (λ (q : Option ℕ × Option ℕ). q .0) (told .1) in
+        let g : y ≡ p = sym (ap (cellOf (setup st)) exact) ∙ ap (λ (q : Option ℕ × Option ℕ). q .1) (told .1) in
+        let map = map-laws (st .registers) (not-of (ready (setup st)) (cause-fails (not (ready (setup st))) (5 ∷ []) on)) in (
+          record {
+            in-range = in-range a n t fit;
+            first = f;
+            first-lent = rw (← f) (lent-at x cells (else-left (unlentAt x cells) (unlentAt y cells) both));
+            second = g;
+            second-lent = rw (← g) (lent-at y cells (else-right (unlentAt x cells) (unlentAt y cells) both));
+            apart = λ k u v. absurd (omega (arith, map .apart a (nextDoubleword a) k (f ∙ u) (g ∙ v), next-at a));
+          },
+          count-fits a n fit .few,
+        )
+
+  judges-split : (i : JudgedSplit) → paperSplit i ≡ (judgedSplitAt st a second-at (byCount a n) gives cells-at)
+      → JudgesSplit i (judgedSplitAt st a (nextDoubleword a) (byCount a n)) st a n
+  judges-split (two.Refused x) e = sym (same-second (byCount a n) refl) ∙ gives-refused (judgedSplitAt st a second-at (byCount a n)) cells-at (paper x) (sym e)
+  judges-split (two.Cells k l) e = let q = placed (some k) (some l) (sym e) in (free (some k) (some l) (sym e), q .0, q .1)
+  judges-split (two.Parts x y) e = let q = placed (targetOf x) (targetOf y) (sym e) in (free (targetOf x) (targetOf y) (sym e), q .0, q .1)
 
   -- the judgement as it was matched
-  pub split-judged-as : (v : Verdict) {j i : JudgedSplit}
-      → j ≡ judgedSplitBy (numberAt (st .registers) a (length (st .cells))) (numberAt (st .registers) (nextDoubleword a % 2 ^ 32) (length (st .cells))) v
-      → j ≡ i → paperVerdict v ≡ byCount a n → JudgesSplit i (judgedSplitAt st a (byCount a n)) st a n
-  split-judged-as v q m e = rw (← m, q) (split-judges v e)
+  pub split-judged-as : (v : Verdict) {j i : JudgedSplit} → paperSplit j ≡ (judgedSplitAt st a second-at (paperVerdict v) gives cells-at)
+      → j ≡ i → paperVerdict v ≡ byCount a n → JudgesSplit i (judgedSplitAt st a (nextDoubleword a) (byCount a n)) st a n
+  split-judged-as v {j = j} {i = i} q m e = judges-split i (rw (← m, ← e) q)

@@ -5,7 +5,7 @@ use mathlib.Core.Bool.{true, cond, _&&_, _||_}
 use mathlib.Core.List.{List}
 use mathlib.Core.Option.{Option, none, some}
 use lib.Dec.{eqb, ltb, leb}
-use Rattle.refusals.specs.Paper.{paper, Declined, Outcome, refused, given, _gives_, _else_}
+use Rattle.refusals.specs.Paper.{paper, Declined, Outcome, refused, given, _gives_}
 use Rattle.refusals.specs.declared.Refusal.{Refusal}
 use Rattle.refusals.specs.declared.Refusal.the-variants as refusal
 use Rattle.refusals.specs.declared.Verdict.{Verdict}
@@ -17,17 +17,14 @@ use Rattle.banks.specs.Map.{cellOf}
 use Rattle.ecc.specs.Lending.{isWithin, isLent}
 use Rattle.calls.specs.Calls.{nextDoubleword}
 use Rattle.calls.specs.State.{State}
-use Rattle.machine.specs.Calls.{setup, unlentAt}
+use Rattle.machine.specs.Calls.{setup}
+use Rattle.targets.specs.Targets.{targetOf}
 use Rattle.targets.specs.declared.Judged.{Judged}
 use Rattle.targets.specs.declared.Judged.the-variants as one
 use Rattle.targets.specs.declared.Selected.{Selected}
 use Rattle.targets.specs.declared.Selected.the-variants as selected
 use Rattle.targets.specs.declared.JudgedSplit.{JudgedSplit}
 use Rattle.targets.specs.declared.JudgedSplit.the-variants as two
-
--- 5, then what the arguments get, then 9: all that refuses a call at the address a, except 10; for a burst a is the last doubleword of its line
-unfoldable pub judgedAt : State → ℕ → Declined → Declined
-judgedAt st a d = notReady (setup st) else d else unlentAt (cellOf (setup st) a) (st .cells)
 
 -- what cell k comes to as a number, if so many bytes are lent: 2 if it is not wholly lent, and otherwise a number from 3 on
 abbrev pub placeOf : ℕ → ℕ → ℕ
@@ -47,12 +44,12 @@ numberAt r a bytes = located (notReady (setupOf r) gives cellOf (setupOf r) a) b
 abbrev pub destinationBy : ℕ → Judged
 destinationBy x = cond (leb 3 x) (one.Cell (x - 3)) (cond (eqb x 2) (one.Refused refusal.NotLent) one.NoBank)
 
--- a refusal by the arguments comes first
+-- what holds unless the arguments are refused
 abbrev pub unlessDeclined : {A : Type 0} → (Refusal → A) → Verdict → A → A
 unlessDeclined refuse verdict.Accepted j = j
 unlessDeclined refuse (verdict.Refused x) j = refuse x
 
--- 5 comes before it
+-- 5, then a refusal by the arguments
 abbrev pub judgedBy : ℕ → Verdict → Judged
 judgedBy x v = cond (eqb x 0) (one.Refused refusal.NotReady) (unlessDeclined one.Refused v (destinationBy x))
 
@@ -64,10 +61,6 @@ Judges (one.Cell k) d o cells = (d ≡ none) × (o ≡ some k) × (isLent cells 
 
 -- ---- the two accesses of a split
 
--- 5, then what the arguments get, then 9 of either access
-unfoldable pub judgedSplitAt : State → ℕ → Declined → Declined
-judgedSplitAt st a d = notReady (setup st) else d else unlentAt (cellOf (setup st) a) (st .cells) else unlentAt (cellOf (setup st) (nextDoubleword a)) (st .cells)
-
 -- the number of the doubleword behind one of the same megabyte: its cell is the next one
 abbrev pub numberAfter : ℕ → ℕ → ℕ
 numberAfter x bytes = cond (ltb x 3) x (cond (ltb (bytes - 9 * (x - 2)) 9) 2 (x + 1))
@@ -76,18 +69,14 @@ numberAfter x bytes = cond (ltb x 3) x (cond (ltb (bytes - 9 * (x - 2)) 9) 2 (x 
 abbrev pub selectedBy : ℕ → Selected
 selectedBy x = cond (leb 3 x) (selected.Cell (x - 3)) selected.NoBank
 
--- what two numbers mean if no argument is refused
+-- what two numbers mean if no argument is refused: two cells, a cell that is not lent, or a part without a bank
 abbrev pub destinationsBy : ℕ → ℕ → JudgedSplit
 destinationsBy x y =
     cond (leb 3 x && leb 3 y) (two.Cells (x - 3) (y - 3)) (cond (eqb x 2 || eqb y 2) (two.Refused refusal.NotLent) (two.Parts (selectedBy x) (selectedBy y)))
 
+-- 5 and a refusal by the arguments come before that
 abbrev pub judgedSplitBy : ℕ → ℕ → Verdict → JudgedSplit
 judgedSplitBy x y v = cond (eqb x 0) (two.Refused refusal.NotReady) (unlessDeclined two.Refused v (destinationsBy x y))
-
--- the cell of an access, none without a bank
-abbrev pub targetOf : Selected → Option ℕ
-targetOf selected.NoBank = none
-targetOf (selected.Cell k) = some k
 
 -- it is lent, if there is one
 abbrev pub LentAt : Option ℕ → List ℕ → Type 0

@@ -1,8 +1,13 @@
 // Where a call goes, if so many bytes of cells are lent: refused, without a bank, or to a cell that is wholly lent; of a split, where both of its
 // accesses go. All of it is found before a call changes anything.
 ghost use mathlib.Core.Path.{_≡_};
+ghost use Rattle.refusals.specs.Paper.{paperVerdict, _gives_};
 ghost use Rattle.registers.specs.Record.{recordOf};
-ghost use Rattle.targets.specs.CodeTargets.{numberAt, destinationBy, judgedBy};
+ghost use Rattle.banks.specs.Setup.{setupOf};
+ghost use Rattle.banks.specs.Map.{cellOf};
+ghost use Rattle.calls.specs.State.{state};
+ghost use Rattle.targets.specs.Targets.{paperJudged, judgedAt};
+ghost use Rattle.targets.specs.CodeTargets.{destinationBy, judgedBy};
 use crate::locate::FIRST_CELL;
 use crate::locate::NOT_LENT;
 use crate::locate::NOT_READY;
@@ -48,11 +53,10 @@ fn destination(x: usize) -> Judged
     Judged::NoBank
 }
 
-// REF-104: 5, then the refusal by the arguments, then 9.
-pub fn judge(registers: &[u8; 256], bytes: usize, address: u32, v: Verdict) -> Judged
-    ensures { λ j. ⌜ j ≡ judgedBy (numberAt (recordOf (now (registers .entry))) address bytes) v ⌝ }
+// 5, then the refusal by the arguments, then 9.
+fn judge_by(x: usize, v: Verdict) -> Judged
+    ensures { λ j. ⌜ j ≡ judgedBy x v ⌝ }
 {
-    let x = locate(Registers { bytes: *registers }, bytes, address);
     if x == NOT_READY {
         return Judged::Refused(Refusal::NotReady);
     }
@@ -60,4 +64,12 @@ pub fn judge(registers: &[u8; 256], bytes: usize, address: u32, v: Verdict) -> J
         Verdict::Accepted => destination(x),
         Verdict::Refused(r) => Judged::Refused(r),
     }
+}
+
+// REF-104: where a call of one access goes, if its arguments get v.
+pub fn judge(registers: &[u8; 256], cells: &[u8], address: u32, v: Verdict) -> Judged
+    ensures { λ j. ⌜ paperJudged j ≡ (judgedAt (state (recordOf (now (registers .entry))) (now (cells .entry))) address (paperVerdict v) gives cellOf (setupOf (recordOf (now (registers .entry)))) address) ⌝ }
+{
+    let x = locate(Registers { bytes: *registers }, cells.len(), address);
+    judge_by(x, v)
 }

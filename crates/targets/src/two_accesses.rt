@@ -2,8 +2,13 @@
 ghost use mathlib.Core.Path.{_≡_};
 ghost use Prim.Native.Nat.{_-_, _*_, _/_, _%_, _^_, _≤_};
 ghost use lib.Dec.{ltb};
+ghost use Rattle.refusals.specs.Paper.{paperVerdict, _gives_};
 ghost use Rattle.registers.specs.Record.{recordOf};
+ghost use Rattle.banks.specs.Setup.{setupOf};
+ghost use Rattle.banks.specs.Map.{cellOf};
 ghost use Rattle.calls.specs.Calls.{nextDoubleword};
+ghost use Rattle.calls.specs.State.{state};
+ghost use Rattle.targets.specs.Targets.{paperSplit, judgedSplitAt};
 ghost use Rattle.targets.specs.CodeTargets.{numberAt, numberAfter, selectedBy, destinationsBy, judgedSplitBy};
 use crate::JudgedSplit;
 use crate::Selected;
@@ -57,10 +62,12 @@ fn destinations_after(first: usize, bytes: usize) -> JudgedSplit
     if first < FIRST_CELL {
         return destinations(first, first);
     }
-    if bytes - 9 * (first - 2) < 9 {
+    // the next cell, which begins where the first one ends
+    let next = first - 2;
+    if bytes - 9 * next < 9 {
         return JudgedSplit::Refused(Refusal::NotLent);
     }
-    JudgedSplit::Cells(first - FIRST_CELL, first - 2)
+    JudgedSplit::Cells(first - FIRST_CELL, next)
 }
 
 // Where both accesses go, if the arguments are not refused and `locate` returned `first` for the address. Where both doublewords lie in one megabyte
@@ -77,11 +84,17 @@ fn destinations_at(registers: &[u8; 256], bytes: usize, address: u32, first: usi
     destinations(first, second)
 }
 
-// REF-104: 5, then the refusal by the arguments, then 9.
-pub fn judge_split(registers: &[u8; 256], bytes: usize, address: u32, v: Verdict) -> JudgedSplit
-    ensures { λ j. ⌜ j ≡ judgedSplitBy (numberAt (recordOf (now (registers .entry))) address bytes) (numberAt (recordOf (now (registers .entry))) (nextDoubleword address % 2 ^ 32) bytes) v ⌝ }
+// 5, then the refusal by the arguments, then 9 of either access; `locate` returned `first` for the address.
+fn judge_split_by(
+    registers: &[u8; 256],
+    bytes: usize,
+    address: u32,
+    first: usize,
+    v: Verdict,
+) -> JudgedSplit
+    requires { ⌜ first ≡ numberAt (recordOf (now registers)) address bytes ⌝ }
+    ensures { λ j. ⌜ j ≡ judgedSplitBy first (numberAt (recordOf (now (registers .entry))) (nextDoubleword address % 2 ^ 32) bytes) v ⌝ }
 {
-    let first = locate(Registers { bytes: *registers }, bytes, address);
     if first == NOT_READY {
         return JudgedSplit::Refused(Refusal::NotReady);
     }
@@ -89,4 +102,12 @@ pub fn judge_split(registers: &[u8; 256], bytes: usize, address: u32, v: Verdict
         Verdict::Accepted => destinations_at(registers, bytes, address, first),
         Verdict::Refused(x) => JudgedSplit::Refused(x),
     }
+}
+
+// REF-104, MEM-16: where both accesses of a split go, if its arguments get v. The second is at the next doubleword, and behind the last one at 0.
+pub fn judge_split(registers: &[u8; 256], cells: &[u8], address: u32, v: Verdict) -> JudgedSplit
+    ensures { λ j. ⌜ paperSplit j ≡ (judgedSplitAt (state (recordOf (now (registers .entry))) (now (cells .entry))) address (nextDoubleword address % 2 ^ 32) (paperVerdict v) gives (cellOf (setupOf (recordOf (now (registers .entry)))) address, cellOf (setupOf (recordOf (now (registers .entry)))) (nextDoubleword address % 2 ^ 32))) ⌝ }
+{
+    let first = locate(Registers { bytes: *registers }, cells.len(), address);
+    judge_split_by(registers, cells.len(), address, first, v)
 }

@@ -1,25 +1,18 @@
-use borrow.Author.Tests.{ne-eqb}
+use Prim.Native.Nat.{ℕ}
+use mathlib.Core.Path.{ap, _∙_}
+use Rattle.registers.specs.Record.{recordOf}
+use Rattle.calls.specs.State.{state}
+use Rattle.targets.specs.Targets.{paperJudged}
+use Rattle.targets.specs.CodeTargets.{judgedBy}
+use Rattle.targets.proofs.JudgeLaws.{judged-paper}
 use borrow.Author.Needs.{needs}
 use Rattle.targets.proofs.judge.Statement.{statement}
 use Rattle.targets.proofs.judge.Tie as tie
 
 returns : tie.Need-returns
-returns c = rw (← c .before .locate .ensures, c .if1 .taken)
-
-returns-2 : tie.Need-returns-2
-returns-2 c = rw (← c .before .before .before .before .locate .ensures, ne-eqb _ 0 (c .before .before .before .if1 .left), c .before .enum-told .given .1, c .destination .ensures)
-
-returns-3 : tie.Need-returns-3
-returns-3 c = rw (← c .before .before .before .before .locate .ensures, ne-eqb _ 0 (c .before .before .before .if1 .left), c .before .v .given .1)
+returns c =
+    let a = c .before .before .before .before .args in
+    ap paperJudged (c .judge-by .ensures ∙ ap (λ (x : ℕ). judgedBy x (a .v)) (c .before .locate .ensures)) ∙ judged-paper (state (recordOf (a .registers .now)) (a .cells .now)) (a .address) (a .v)
 
 pub judge-spec : {M : Type 1} → statement M
-judge-spec =
-    tie.close
-    (tie.spec
-    (λ c κs. search needs)
-    returns
-    (λ c. search needs)
-    (λ c κs. search needs)
-    (λ c. search needs)
-    returns-2
-    returns-3)
+judge-spec = tie.close (tie.spec (λ c κs. search needs) (λ c κs. search needs) returns)

@@ -19,28 +19,28 @@ use Rattle.memory.proofs.in_place.flip_in_place.Tie as tie
 
 flip-cell-requires : tie.Need-flip-cell-requires
 flip-cell-requires c κs =
-    let a = c .before .before .before .before .before .before .before .args in
+    let a = c .before .before .before .before .before .before .before .before .args in
     let st = state (recordOf (a .registers .now)) (a .cells .now) in
     let j = judged-as st (a .address) (c .before .before .before .before .before .judge-bit .result) _ (c .before .before .before .before .judge .ensures) (c .before .before .judged2 .given .1) (c .before .before .before .before .before .judge-bit .ensures) in
     (j .2, bit-fits (a .bit) (judged-arguments st (a .address) (byBit (a .bit)) (j .0)))
 
 returns : tie.Need-returns
 returns c =
-    let a = c .before .before .before .before .before .before .before .args in
+    let a = c .before .before .before .before .before .before .before .before .args in
     let st = state (recordOf (a .registers .now)) (a .cells .now) in
     let j = judged-as st (a .address) (c .before .before .before .before .before .judge-bit .result) _ (c .before .before .before .before .judge .ensures) (c .before .before .judged .given .1) (c .before .before .before .before .before .judge-bit .ensures) in
     simp (c .refuse .ensures) (sym (called-refused columns st (flip (a .address) (a .bit)) [] (paper (c .before .before .judged .given .0 .0)) (flip-refusal st (a .address) (a .bit) ∙ rw j)))
 
 returns-2 : tie.Need-returns-2
 returns-2 c =
-    let a = c .before .before .before .before .before .before .args in
+    let a = c .before .before .before .before .before .before .before .args in
     let st = state (recordOf (a .registers .now)) (a .cells .now) in
     let j = judged-as st (a .address) (c .before .before .before .before .judge-bit .result) _ (c .before .before .before .judge .ensures) (c .before .enum-told .given .1) (c .before .before .before .before .judge-bit .ensures) in
     simp (c .refuse2 .ensures) (sym (called-refused columns st (flip (a .address) (a .bit)) [] (10 ∷ []) (flip-refusal st (a .address) (a .bit) ∙ rw (j .0, j .1))))
 
 returns-3 : tie.Need-returns-3
 returns-3 c =
-    let a = c .before .before .before .before .before .before .before .before .before .before .before .args in
+    let a = c .before .before .before .before .before .before .before .before .before .before .before .before .args in
     let st = state (recordOf (a .registers .now)) (a .cells .now) in
     let j = judged-as st (a .address) (c .before .before .before .before .before .before .before .before .before .judge-bit .result) _ (c .before .before .before .before .before .before .before .before .judge .ensures) (c .before .before .before .before .before .before .judged2 .given .1) (c .before .before .before .before .before .before .before .before .before .judge-bit .ensures) in
     let fits = bit-fits (a .bit) (judged-arguments st (a .address) (byBit (a .bit)) (j .0)) in
@@ -60,7 +60,9 @@ flip-in-place-spec =
     (λ c. search needs)
     flip-cell-requires
     (λ c κs. search needs)
+    (λ c. search needs)
     returns
+    (λ c. search needs)
     returns-2
     (λ c. search needs)
     returns-3)

@@ -18,14 +18,14 @@ use Rattle.memory.proofs.in_place.scrub_in_place.Tie as tie
 
 scrub-cell-requires : tie.Need-scrub-cell-requires
 scrub-cell-requires c κs =
-    let a = c .before .before .before .before .before .before .before .before .args in
+    let a = c .before .before .before .before .before .before .before .before .before .args in
     let st = state (recordOf (a .registers .now)) (a .cells .now) in
     let j = judged-as st (a .address) Accepted _ (c .before .before .before .before .before .judge .ensures) (c .before .before .before .judged2 .given .1) refl in
     j .2
 
 returns : tie.Need-returns
 returns c =
-    let a = c .before .before .before .before .before .before .before .args in
+    let a = c .before .before .before .before .before .before .before .before .args in
     let st = state (recordOf (a .registers .now)) (a .cells .now) in
     let j = judged-as st (a .address) Accepted _ (c .before .before .before .before .judge .ensures) (c .before .before .judged .given .1) refl in
     simp (c .refuse .ensures) (sym (called-refused columns st (scrub (a .address)) [] (paper (c .before .before .judged .given .0 .0)) (scrub-refusal st (a .address) ∙ j)))
@@ -33,14 +33,14 @@ returns c =
 returns-2 : tie.Need-returns-2
 unfolding onTarget missed
 returns-2 c =
-    let a = c .before .before .before .before .before .before .before .args in
+    let a = c .before .before .before .before .before .before .before .before .args in
     let st = state (recordOf (a .registers .now)) (a .cells .now) in
     let j = judged-as st (a .address) Accepted _ (c .before .before .before .before .judge .ensures) (c .before .before .enum-told .given .1) refl in
     simp (c .report .ensures .0) (sym (called-done st (scrub (a .address)) (scrubIn (a .address)) (single-parts (scrubIn (a .address)) tt) columns [] (scrub-refusal st (a .address) ∙ j .0) _ _ _ _ _ (j .1) refl (c .report .ensures .1)))
 
 returns-3 : tie.Need-returns-3
 returns-3 c =
-    let a = c .before .before .before .before .before .before .before .before .before .before .before .before .before .args in
+    let a = c .before .before .before .before .before .before .before .before .before .before .before .before .before .before .args in
     let st = state (recordOf (a .registers .now)) (a .cells .now) in
     let j = judged-as st (a .address) Accepted _ (c .before .before .before .before .before .before .before .before .before .before .judge .ensures) (c .before .before .before .before .before .before .before .before .judged2 .given .1) refl in
     simp (c .report2 .ensures .0) (sym (called-done st (scrub (a .address)) (scrubIn (a .address)) (single-parts (scrubIn (a .address)) tt) columns [] (scrub-refusal st (a .address) ∙ j .0) _ _ _ _ _ (j .1) (rw own-columns at (c .before .before .before .before .scrub-cell .ensures)) (c .report2 .ensures .1)))
@@ -58,7 +58,9 @@ scrub-in-place-spec =
     (λ c. search needs)
     scrub-cell-requires
     (λ c κs. search needs)
+    (λ c. search needs)
     returns
+    (λ c. search needs)
     returns-2
     (λ c. search needs)
     returns-3)

@@ -23,18 +23,18 @@ write-split-requires c κs = sym (c .before .before .before .crosses-end .ensure
 
 write-cell-requires : tie.Need-write-cell-requires
 write-cell-requires c κs =
-    let a = c .before .before .before .before .before .before .before .before .before .before .before .before .args in
+    let a = c .before .before .before .before .before .before .before .before .before .before .before .before .before .args in
     let st = state (recordOf (a .registers .now)) (a .cells .now) in
-    let inside = sym (c .before .before .before .before .before .before .before .before .before .crosses-end .ensures) ∙ c .before .before .before .before .before .before .before .before .if1 .left in
+    let inside = sym (c .before .before .before .before .before .before .before .before .before .before .crosses-end .ensures) ∙ c .before .before .before .before .before .before .before .before .before .if1 .left in
     let fits = inside-fits (a .address) (length (a .bytes .now)) inside in
     let j = judged-as st (a .address) (c .before .before .before .before .before .before .judge-inside .result) _ (c .before .before .before .before .before .judge .ensures) (c .before .before .before .judged2 .given .1) (c .before .before .before .before .before .before .judge-inside .ensures (a .address) (omega arith) inside) in
     (j .2, fits)
 
 returns-2 : tie.Need-returns-2
 returns-2 c =
-    let a = c .before .before .before .before .before .before .before .before .before .before .before .args in
+    let a = c .before .before .before .before .before .before .before .before .before .before .before .before .args in
     let st = state (recordOf (a .registers .now)) (a .cells .now) in
-    let inside = sym (c .before .before .before .before .before .before .before .before .crosses-end .ensures) ∙ c .before .before .before .before .before .before .before .if1 .left in
+    let inside = sym (c .before .before .before .before .before .before .before .before .before .crosses-end .ensures) ∙ c .before .before .before .before .before .before .before .before .if1 .left in
     let fits = inside-fits (a .address) (length (a .bytes .now)) inside in
     let j = judged-as st (a .address) (c .before .before .before .before .before .judge-inside .result) _ (c .before .before .before .before .judge .ensures) (c .before .before .judged .given .1) (c .before .before .before .before .before .judge-inside .ensures (a .address) (omega arith) inside) in
     simp (c .refuse .ensures) (sym (called-refused columns st (write (a .address) (a .bytes .now)) [] (paper (c .before .before .judged .given .0 .0)) (write-refusal st (a .address) (a .bytes .now) fits ∙ j)))
@@ -42,18 +42,18 @@ returns-2 c =
 returns-3 : tie.Need-returns-3
 unfolding onTarget missed
 returns-3 c =
-    let a = c .before .before .before .before .before .before .before .before .before .before .before .args in
+    let a = c .before .before .before .before .before .before .before .before .before .before .before .before .args in
     let st = state (recordOf (a .registers .now)) (a .cells .now) in
-    let inside = sym (c .before .before .before .before .before .before .before .before .crosses-end .ensures) ∙ c .before .before .before .before .before .before .before .if1 .left in
+    let inside = sym (c .before .before .before .before .before .before .before .before .before .crosses-end .ensures) ∙ c .before .before .before .before .before .before .before .before .if1 .left in
     let fits = inside-fits (a .address) (length (a .bytes .now)) inside in
     let j = judged-as st (a .address) (c .before .before .before .before .before .judge-inside .result) _ (c .before .before .before .before .judge .ensures) (c .before .before .enum-told .given .1) (c .before .before .before .before .before .judge-inside .ensures (a .address) (omega arith) inside) in
     simp (c .report .ensures .0) (sym (called-done st (write (a .address) (a .bytes .now)) (writeIn (a .address) (a .bytes .now)) (single-parts (writeIn (a .address) (a .bytes .now)) fits) columns [] (write-refusal st (a .address) (a .bytes .now) fits ∙ j .0) _ _ _ _ _ (j .1) refl (c .report .ensures .1)))
 
 returns-4 : tie.Need-returns-4
 returns-4 c =
-    let a = c .before .before .before .before .before .before .before .before .before .before .before .before .before .before .before .before .before .args in
+    let a = c .before .before .before .before .before .before .before .before .before .before .before .before .before .before .before .before .before .before .args in
     let st = state (recordOf (a .registers .now)) (a .cells .now) in
-    let inside = sym (c .before .before .before .before .before .before .before .before .before .before .before .before .before .before .crosses-end .ensures) ∙ c .before .before .before .before .before .before .before .before .before .before .before .before .before .if1 .left in
+    let inside = sym (c .before .before .before .before .before .before .before .before .before .before .before .before .before .before .before .crosses-end .ensures) ∙ c .before .before .before .before .before .before .before .before .before .before .before .before .before .before .if1 .left in
     let fits = inside-fits (a .address) (length (a .bytes .now)) inside in
     let j = judged-as st (a .address) (c .before .before .before .before .before .before .before .before .before .before .before .judge-inside .result) _ (c .before .before .before .before .before .before .before .before .before .before .judge .ensures) (c .before .before .before .before .before .before .before .before .judged2 .given .1) (c .before .before .before .before .before .before .before .before .before .before .before .judge-inside .ensures (a .address) (omega arith) inside) in
     simp (c .report2 .ensures .0) (sym (called-done st (write (a .address) (a .bytes .now)) (writeIn (a .address) (a .bytes .now)) (single-parts (writeIn (a .address) (a .bytes .now)) fits) columns [] (write-refusal st (a .address) (a .bytes .now) fits ∙ j .0) _ _ _ _ _ (j .1) (rw own-columns at (c .before .before .before .before .write-cell .ensures)) (c .report2 .ensures .1)))
@@ -76,7 +76,9 @@ write-in-place-spec =
     (λ c. search needs)
     write-cell-requires
     (λ c κs. search needs)
+    (λ c. search needs)
     returns-2
+    (λ c. search needs)
     returns-3
     (λ c. search needs)
     returns-4)

@@ -1,7 +1,7 @@
 use lib.ListN.{length}
 use Rattle.registers.specs.Record.{recordOf}
 use Rattle.machine.specs.Calls.{performed}
-use Rattle.targets.specs.CodeTargets.{targetOf}
+use Rattle.targets.specs.Targets.{targetOf}
 use Rattle.memory.proofs.FetchLaws.{split-read}
 use Rattle.targets.proofs.SplitLaws.{next-exact}
 use borrow.Author.Needs.{needs}

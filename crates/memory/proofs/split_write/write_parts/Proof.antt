@@ -8,9 +8,10 @@ use Rattle.calls.specs.Calls.{writeIn, room, nextDoubleword, parts}
 use Rattle.calls.specs.State.{state}
 use Rattle.calls.proofs.SplitLaws.{split-rest, room-ends, next-aligned}
 use Rattle.machine.specs.Calls.{performed}
-use Rattle.targets.specs.CodeTargets.{targetOf}
+use Rattle.targets.specs.Targets.{targetOf}
 use Rattle.memory.proofs.AccessLaws.{two-done}
-use Rattle.targets.proofs.SplitLaws.{still-lent, next-exact}
+use Rattle.targets.proofs.LentLaws.{still-lent}
+use Rattle.targets.proofs.SplitLaws.{next-exact}
 use Rattle.memory.proofs.SplitLaws.{rest-taken}
 use borrow.Author.Needs.{needs}
 use Rattle.memory.proofs.split_write.write_parts.Statement.{statement}

@@ -12,8 +12,8 @@ returns c = rw (lt-ltb _ 3 (c .before .if1 .taken)) (c .destinations .ensures)
 mul-if2 : tie.Need-mul-if2
 mul-if2 c = omega (arith, c .before .pre (c .if1 .left))
 
-sub-if2-2 : tie.Need-sub-if2-2
-sub-if2-2 c = omega (arith, c .before .pre (c .if1 .left))
+sub-if2 : tie.Need-sub-if2
+sub-if2 c = omega (arith, c .before .pre (c .if1 .left))
 
 returns-2 : tie.Need-returns-2
 returns-2 c =
@@ -36,7 +36,6 @@ destinations-after-spec =
     returns
     (λ c. search needs)
     mul-if2
-    sub-if2-2
+    sub-if2
     returns-2
-    (λ c. search needs)
     returns-3)
