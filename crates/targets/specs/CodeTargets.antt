@@ -1,4 +1,4 @@
--- What the code knows of a call before it changes anything. Only contracts of the code use it.
+-- What the code knows of a call before it changes anything. Only contracts of private functions, and laws about the code, use it.
 use Prim.Native.Nat.{ℕ, _+_, _-_, _*_, _^_, _≤_, _<_}
 use mathlib.Core.Path.{_≡_}
 use mathlib.Core.Bool.{true, cond, _&&_, _||_}
@@ -78,7 +78,7 @@ destinationsBy x y =
 abbrev pub judgedSplitBy : ℕ → ℕ → Verdict → JudgedSplit
 judgedSplitBy x y v = cond (eqb x 0) (two.Refused refusal.NotReady) (unlessDeclined two.Refused v (destinationsBy x y))
 
--- it is lent, if there is one
+-- the cell of an access is lent, if it has one
 abbrev pub LentAt : Option ℕ → List ℕ → Type 0
 LentAt none cells = Unit {0}
 LentAt (some k) cells = isLent cells k ≡ true

@@ -19,7 +19,7 @@ paperJudged (one.Refused x) = refused (paper x)
 paperJudged one.NoBank = given none
 paperJudged (one.Cell k) = given (some k)
 
--- the cell of an access, none without a bank
+-- the cell of an access that is not refused, none without a bank
 abbrev pub targetOf : Selected → Option ℕ
 targetOf selected.NoBank = none
 targetOf (selected.Cell k) = some k
