@@ -44,8 +44,11 @@ static void print_answer(const char *call, uint32_t address, uint32_t result, co
     printf("%s %08x: ", call, address);
     if (print_refusal(result))
         return;
-    for (uint32_t i = 0; i < answer->count; i++)
+    for (uint32_t i = 0; i < answer->count; i++) {
         printf("%s%s", i == 0 ? "" : ", ", kind_name(answer->part[i]));
+        if (MPC106_KIND(answer->part[i]) == MPC106_CORRECTED)
+            printf(" bit %u", MPC106_FLIP_BIT(answer->part[i]));
+    }
     printf("\n");
 }
 

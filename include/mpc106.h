@@ -76,7 +76,7 @@
 #include <stdint.h>
 
 /* The version of this interface: a program that compiles with one compiles with every later one of the same major version. */
-#define MPC106_VERSION_MAJOR 2
+#define MPC106_VERSION_MAJOR 3
 #define MPC106_VERSION_MINOR 0
 #define MPC106_VERSION_PATCH 0
 #define MPC106_VERSION (MPC106_VERSION_MAJOR * 10000 + MPC106_VERSION_MINOR * 100 + MPC106_VERSION_PATCH)
@@ -132,7 +132,7 @@ enum mpc106_refusal {
 /* The kind of one part of an accepted read, write, scrub or burst. 0 is no kind. */
 enum mpc106_kind {
     MPC106_CLEAN = 1,         /* nothing was wrong */
-    MPC106_CORRECTED = 2,     /* one bit was wrong and was corrected */
+    MPC106_CORRECTED = 2,     /* one bit was wrong and was corrected: MPC106_FLIP_BIT(part) */
     MPC106_UNCORRECTABLE = 3, /* more bits were wrong than can be corrected */
     MPC106_STORED = 4,        /* a write of 8 bytes that fill one doubleword, or a beat of a burst write */
     MPC106_NO_BANK = 5        /* no enabled bank holds the address */
@@ -140,6 +140,13 @@ enum mpc106_kind {
 
 /* The kind that a part of an answer holds. Later versions may put more into a part, so do not compare whole parts. */
 #define MPC106_KIND(part) ((part) & 0xffu)
+
+/*
+ * The bit that was corrected, if the kind is MPC106_CORRECTED; 0 for any other kind. It is numbered as mpc106_flip
+ * numbers bits: 0 to 63 are data bits of the whole doubleword, whichever of its bytes were asked for, and 64 to 71
+ * check bits. It is the bit that the check byte names: if three or more were wrong, that can be one that was right.
+ */
+#define MPC106_FLIP_BIT(part) (((part) >> 8) & 0xffu)
 
 /* The register record: a byte for each offset. */
 typedef struct mpc106_record {
@@ -177,7 +184,8 @@ typedef struct mpc106_place {
  *   registers, first, second       the 256 bytes of a record
  *   cells, cells_length            the lent cells, and how many bytes they have
  *   buffer or bytes, its length    of a read, write or burst; the length is the count of bytes
- *   answer                         five numbers: the count, then four parts
+ *   answer                         five numbers: the count, then four parts, each with its kind in the low byte and in
+ *                                  the next byte the bit of MPC106_CORRECTED, or 0
  *   place                          five numbers: found, bank, row, column, cell
  *   count, value, address, alike   the one number that the call gives
  */
@@ -323,13 +331,15 @@ static inline uint32_t mpc106_alike(const mpc106_record *first, const mpc106_rec
 /*
  * Reads count bytes, 1 to 8, into buffer.
  * Gives MPC106_CLEAN or MPC106_CORRECTED with the right bytes in buffer, MPC106_UNCORRECTABLE with the bytes as
- * they are stored, or MPC106_NO_BANK with FF in every byte.
+ * they are stored, or MPC106_NO_BANK with FF in every byte. With MPC106_CORRECTED the part of the answer also holds
+ * the bit that was wrong, MPC106_FLIP_BIT; it need not lie in one of these bytes.
  * The error registers of the record (B8, C1, C5, C8 to CB) are brought up to date. Cells are never changed.
  * If the bytes run into the next doubleword, that is if address % 8 + count is above 8, the read is a split. It has
  * two parts: the bytes up to the end of the first doubleword, at address, and the rest, at the next doubleword. Each
- * is what mpc106_read of its own bytes is, and gives a part of the answer; one that finds no bank sets its own bytes
- * of buffer to FF, and no others. The second is performed even if the first is uncorrectable or finds no bank, and
- * the two may lie in different banks. The error registers are left as two such calls leave them.
+ * is what mpc106_read of its own bytes is, and gives a part of the answer, with a bit of its own if it was corrected;
+ * one that finds no bank sets its own bytes of buffer to FF, and no others. The second is performed even if the first
+ * is uncorrectable or finds no bank, and the two may lie in different banks. The error registers are left as two such
+ * calls leave them.
  * If one of the two cells is not lent, the split is refused whole.
  * Refused: 5, 6, 7, 9.
  */
@@ -344,7 +354,8 @@ static inline uint32_t mpc106_read(const mpc106_memory *memory, uint32_t address
  * Writes count bytes, 1 to 8.
  * 8 bytes in one doubleword: gives MPC106_STORED; data and check byte are stored, whatever was there before.
  * Fewer: the doubleword is corrected, the bytes are merged into it, and it is stored; gives MPC106_CLEAN or
- * MPC106_CORRECTED. If it cannot be corrected, gives MPC106_UNCORRECTABLE, and cells are left as they were.
+ * MPC106_CORRECTED, with the bit that was wrong before. If it cannot be corrected, gives MPC106_UNCORRECTABLE, and
+ * cells are left as they were.
  * No bank: gives MPC106_NO_BANK, and cells are left as they were.
  * The error registers of the record are brought up to date.
  * If the bytes run into the next doubleword, the write is a split, with the two parts of mpc106_read. Each is what
@@ -374,8 +385,8 @@ static inline uint32_t mpc106_flip(const mpc106_memory *memory, uint32_t address
 
 /*
  * Scrubs the doubleword that holds the address: a cell that needs a correction is corrected and stored again.
- * Gives MPC106_CLEAN, MPC106_CORRECTED, MPC106_UNCORRECTABLE or MPC106_NO_BANK; cells change only with
- * MPC106_CORRECTED. The error registers of the record are brought up to date.
+ * Gives MPC106_CLEAN, MPC106_CORRECTED with the bit that was wrong, MPC106_UNCORRECTABLE or MPC106_NO_BANK; cells
+ * change only with MPC106_CORRECTED. The error registers of the record are brought up to date.
  * Refused: 5, 9.
  */
 static inline uint32_t mpc106_scrub(const mpc106_memory *memory, uint32_t address, mpc106_answer *answer)
@@ -389,9 +400,9 @@ static inline uint32_t mpc106_scrub(const mpc106_memory *memory, uint32_t addres
  * So count must be MPC106_LINE_BYTES.
  * The first beat is at address, which must be a multiple of 8. Each further beat is at the next doubleword, and after
  * the last doubleword of the line comes the first: the beats of a burst at 0x50 are at 0x50, 0x58, 0x40 and 0x48.
- * Each beat is what mpc106_read of 8 bytes is. It gives a part of the answer and eight bytes of buffer, both in the
- * order of the beats; a beat that is uncorrectable or finds no bank does not stop the others. The error registers are
- * left as four such calls leave them.
+ * Each beat is what mpc106_read of 8 bytes is. It gives a part of the answer, with a bit of its own if it was
+ * corrected, and eight bytes of buffer, both in the order of the beats; a beat that is uncorrectable or finds no bank
+ * does not stop the others. The error registers are left as four such calls leave them.
  * If one of the four cells is not lent, the burst is refused whole.
  * Refused: 5, 19, 20, 9.
  */

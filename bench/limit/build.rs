@@ -47,18 +47,18 @@ fn split_check(check: &[u8]) -> Vec<u16> {
     first.chain(second).collect()
 }
 
-/// KIND and FIX, by syndrome: clean, corrected or uncorrectable (1, 2, 3), and the data bit to be corrected, as a mask for the doubleword
-/// loaded with its first byte lowest.
-fn syndromes(columns: &[u8]) -> (Vec<u8>, Vec<String>) {
-    let (mut kind, mut fix) = (vec![3; 256], vec![0u64; 256]);
-    kind[0] = 1;
+/// PART and FIX, by syndrome: the part of an answer, which is clean, corrected or uncorrectable (1, 2, 3) with the flip bit of a correction in the
+/// next byte; and the data bit to be corrected, as a mask for the doubleword loaded with its first byte lowest.
+fn syndromes(columns: &[u8]) -> (Vec<usize>, Vec<String>) {
+    let (mut part, mut fix) = (vec![3; 256], vec![0u64; 256]);
+    part[0] = 1;
     for (bit, &column) in columns.iter().enumerate() {
-        kind[usize::from(column)] = 2;
+        part[usize::from(column)] = bit << 8 | 2;
         if bit < 64 {
             fix[usize::from(column)] = 1 << (bit ^ 7);
         }
     }
-    (kind, fix.iter().map(|mask| format!("{mask:#x}u")).collect())
+    (part, fix.iter().map(|mask| format!("{mask:#x}u")).collect())
 }
 
 /// OFF, by the enable byte: FFFF for each disabled bank; then in how many pairs of banks the first starts above the end of the second, if the
@@ -97,12 +97,12 @@ fn below() -> Vec<u32> {
 
 fn tables() -> String {
     let columns = columns();
-    let (kind, fix) = syndromes(&columns);
+    let (part, fix) = syndromes(&columns);
     let mut text = String::new();
     let check = check(&columns);
     array(&mut text, "uint8_t", "CHECK", &check);
     array(&mut text, "uint16_t", "SPLIT_CHECK", &split_check(&check));
-    array(&mut text, "uint8_t", "KIND", &kind);
+    array(&mut text, "uint16_t", "PART", &part);
     array(&mut text, "uint64_t", "FIX", &fix);
     array(&mut text, "uint16_t", "OFF", &off());
     array(&mut text, "uint16_t", "ROWS", &rows());

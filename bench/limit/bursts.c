@@ -16,10 +16,10 @@ INLINE uint32_t line_refused(struct location at, uint32_t address, size_t n, siz
     return RARE(at.found == HELD && !is_lent(at, cells_length)) ? NOT_LENT : ACCEPTED;
 }
 
-INLINE uint32_t answered_line(uint32_t *answer, uint32_t kind)
+INLINE uint32_t answered_line(uint32_t *answer, uint32_t part)
 {
     answer[0] = 4;
-    answer[1] = answer[2] = answer[3] = answer[4] = kind;
+    answer[1] = answer[2] = answer[3] = answer[4] = part;
     return ACCEPTED;
 }
 
@@ -31,9 +31,9 @@ INLINE uint32_t place_of_beat(uint32_t address, uint32_t beat)
 
 INLINE uint32_t read_beat(uint8_t *registers, const uint8_t *cell, uint32_t address, uint8_t *buffer)
 {
-    uint32_t kind;
-    store64(buffer, read_cell(registers, cell, address, &kind));
-    return kind;
+    uint32_t part;
+    store64(buffer, read_cell(registers, cell, address, &part));
+    return part;
 }
 
 uint32_t limit_burst_read(uint8_t *registers, const uint8_t *cells, size_t cells_length, uint32_t address, uint8_t *buffer,

@@ -26,10 +26,10 @@ uint32_t limit_read(uint8_t *registers, const uint8_t *cells, size_t cells_lengt
 uint32_t limit_write(uint8_t *registers, uint8_t *cells, size_t cells_length, uint32_t address, const uint8_t *bytes, size_t n,
                      uint32_t *answer);
 
-INLINE uint32_t answered(uint32_t *answer, uint32_t kind)
+INLINE uint32_t answered(uint32_t *answer, uint32_t part)
 {
     answer[0] = 1;
-    answer[1] = kind;
+    answer[1] = part;
     answer[2] = answer[3] = answer[4] = 0;
     return ACCEPTED;
 }

@@ -6,7 +6,8 @@
 
 #include "locate.h"
 
-enum { CLEAN = 1, CORRECTED, UNCORRECTABLE, STORED, NO_BANK };
+/* The parts of an answer. One that was corrected has its flip bit in the next byte, and stands in PART. */
+enum { CLEAN = 1, UNCORRECTABLE = 3, STORED, NO_BANK };
 
 INLINE uint64_t load64(const uint8_t *p)
 {
@@ -43,7 +44,8 @@ INLINE void detect(uint8_t *registers, uint32_t offset, uint8_t bit, uint32_t ad
     registers[offset] |= bit;
 }
 
-INLINE uint32_t corrected(uint8_t *registers, uint32_t address)
+/* Counts a correction and reports it where the trigger is reached. The syndrome gives its part. */
+INLINE uint32_t corrected(uint8_t *registers, uint32_t s, uint32_t address)
 {
     uint32_t n = registers[0xb8] + 1u;
     if (n < 256) {
@@ -51,7 +53,7 @@ INLINE uint32_t corrected(uint8_t *registers, uint32_t address)
         if (n == registers[0xb9] && (registers[0xc0] & 4))
             detect(registers, 0xc1, 4, address);
     }
-    return CORRECTED;
+    return PART[s];
 }
 
 INLINE uint32_t uncorrectable(uint8_t *registers, uint32_t address)
@@ -109,19 +111,19 @@ INLINE uint32_t syndrome(const uint8_t *cell)
 }
 
 /* The data of a cell with this syndrome as a read finds it. */
-INLINE uint64_t read_data(uint8_t *registers, uint64_t d, uint32_t s, uint32_t address, uint32_t *kind)
+INLINE uint64_t read_data(uint8_t *registers, uint64_t d, uint32_t s, uint32_t address, uint32_t *part)
 {
-    *kind = CLEAN;
+    *part = CLEAN;
     if (RARE(s)) {
         d ^= FIX[s];
-        *kind = KIND[s] == CORRECTED ? corrected(registers, address) : uncorrectable(registers, address);
+        *part = PART[s] != UNCORRECTABLE ? corrected(registers, s, address) : uncorrectable(registers, address);
     }
     return d;
 }
 
-INLINE uint64_t read_cell(uint8_t *registers, const uint8_t *cell, uint32_t address, uint32_t *kind)
+INLINE uint64_t read_cell(uint8_t *registers, const uint8_t *cell, uint32_t address, uint32_t *part)
 {
-    return read_data(registers, load64(cell), syndrome(cell), address, kind);
+    return read_data(registers, load64(cell), syndrome(cell), address, part);
 }
 
 INLINE void store_cell(uint8_t *cell, uint64_t d, uint32_t check)

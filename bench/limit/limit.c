@@ -22,21 +22,21 @@ uint32_t limit_read(uint8_t *registers, const uint8_t *cells, size_t cells_lengt
     }
     if (RARE(!is_lent(at, cells_length)))
         return NOT_LENT;
-    uint32_t kind;
-    uint64_t d = read_cell(registers, cells + (size_t)at.cell * 9, address, &kind);
+    uint32_t part;
+    uint64_t d = read_cell(registers, cells + (size_t)at.cell * 9, address, &part);
     put(buffer, d >> 8 * (address & 7), n);
-    return answered(answer, kind);
+    return answered(answer, part);
 }
 
 /* The check byte follows from the old one and the bits that change. */
 INLINE uint32_t write_part(uint8_t *registers, uint8_t *cell, uint32_t address, const uint8_t *bytes, size_t n)
 {
     uint64_t d = load64(cell);
-    uint32_t c = check_byte(cell), s = c ^ cell[8], kind = CLEAN;
+    uint32_t c = check_byte(cell), s = c ^ cell[8], part = CLEAN;
     if (RARE(s)) {
-        if (KIND[s] == UNCORRECTABLE)
+        if (PART[s] == UNCORRECTABLE)
             return uncorrectable(registers, address);
-        kind = corrected(registers, address);
+        part = corrected(registers, s, address);
         if (FIX[s]) {
             d ^= FIX[s];
             c ^= s;
@@ -50,7 +50,7 @@ INLINE uint32_t write_part(uint8_t *registers, uint8_t *cell, uint32_t address, 
     for (size_t i = 0; i < n; i++, check += 256, change >>= 8)
         c ^= check[change & 255];
     store_cell(cell, merged, c);
-    return kind;
+    return part;
 }
 
 uint32_t limit_write(uint8_t *registers, uint8_t *cells, size_t cells_length, uint32_t address, const uint8_t *bytes,
@@ -102,13 +102,13 @@ uint32_t limit_scrub(uint8_t *registers, uint8_t *cells, size_t cells_length, ui
     uint32_t c = check_byte(cell), s = c ^ cell[8];
     if (!RARE(s))
         return answered(answer, CLEAN);
-    if (KIND[s] == UNCORRECTABLE)
+    if (PART[s] == UNCORRECTABLE)
         return answered(answer, uncorrectable(registers, address));
     if (FIX[s])
         store64(cell, d ^ FIX[s]);
     else
         cell[8] = (uint8_t)c;
-    return answered(answer, corrected(registers, address));
+    return answered(answer, corrected(registers, s, address));
 }
 
 uint32_t limit_map(const uint8_t *registers, uint32_t address, uint32_t *place)

@@ -10,7 +10,7 @@
 #include <stdint.h>
 #include <string.h>
 
-/* CHECK, SPLIT_CHECK, FIX, KIND, OFF, ROWS, BELOW: written by build.rs, which says what they hold. */
+/* CHECK, SPLIT_CHECK, FIX, PART, OFF, ROWS, BELOW: written by build.rs, which says what they hold. */
 #include "tables.h"
 
 #define INLINE static inline __attribute__((always_inline))

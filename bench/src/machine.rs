@@ -63,7 +63,7 @@ pub fn machine(setup: &Setup, flips: Flips) -> Machine {
     }
 }
 
-/// Answers and places are compared only if both sides write them down.
+/// Answers, flip bits of corrections among them, and places are compared only if both sides write them down.
 pub fn is_same(a: &Machine, b: &Machine, cells: &Range<usize>) -> bool {
     a.record == b.record
         && a.buffer == b.buffer

@@ -7,7 +7,8 @@
 //! Each side has a record, cells and a buffer of its own, the same at the start of a row. All cells are lent. The addresses of a row's
 //! memory calls are random within 1,024 doublewords at the start of one bank, the lowest or the highest, so that calls are timed and not the
 //! caches. These doublewords hold random bytes; in rows of corrected reads each has one bit inverted, and in rows of uncorrectable reads two.
-//! Error reporting is enabled. After a row, record, buffer, answer and those cells must be equal on all sides.
+//! Error reporting is enabled. After a row, record, buffer and those cells must be equal on all sides, and so must the last answer of ours and of
+//! the limit, its flip bits included.
 //!
 //! A split starts inside one of these doublewords, at any place but its first byte, and goes on in the next. In the row with a corrected part, every
 //! second doubleword has one bit inverted. Two tables have the time of a split divided by that of a call that does the same to one cell, on each side.

@@ -4,13 +4,13 @@
 //! Run `rt staticlib mpc106` in the root of the repository, then `cargo run --example switch_on` in `rust/`.
 use mpc106::{offset, Answer, Column, Kind, Memory, Record, Refusal, Row};
 
-fn kind_name(kind: Kind) -> &'static str {
+fn kind_text(kind: Kind) -> String {
     match kind {
-        Kind::Clean => "clean",
-        Kind::Corrected => "corrected",
-        Kind::Uncorrectable => "uncorrectable",
-        Kind::Stored => "stored",
-        Kind::NoBank => "no bank",
+        Kind::Clean => "clean".to_string(),
+        Kind::Corrected(bit) => format!("corrected bit {bit}"),
+        Kind::Uncorrectable => "uncorrectable".to_string(),
+        Kind::Stored => "stored".to_string(),
+        Kind::NoBank => "no bank".to_string(),
     }
 }
 
@@ -21,7 +21,7 @@ fn text<T>(given: Result<T, Refusal>, words: impl Fn(T) -> String) -> String {
 
 fn answer_text(given: Result<Answer, Refusal>) -> String {
     text(given, |answer| {
-        let kinds: Vec<&str> = answer.kinds().map(kind_name).collect();
+        let kinds: Vec<String> = answer.kinds().map(kind_text).collect();
         kinds.join(", ")
     })
 }

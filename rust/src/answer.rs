@@ -4,13 +4,18 @@ use crate::Refusal;
 /// The most parts that an answer has.
 const PARTS: usize = 4;
 
+/// The highest flip bit: the last check bit of a cell.
+const LAST_BIT: u8 = 71;
+
 /// What happened at one part of an accepted read, write, scrub or burst.
 #[derive(Clone, Copy, Debug, PartialEq, Eq, Hash)]
 pub enum Kind {
     /// Nothing was wrong.
     Clean,
-    /// One bit was wrong and was corrected.
-    Corrected,
+    /// One bit was wrong and was corrected: this one, numbered as [`Record::flip`](crate::Record::flip) numbers bits. So
+    /// 0 to 63 are data bits of the whole doubleword, whichever of its bytes were asked for, and 64 to 71 check bits. It
+    /// is the bit that the check byte names: if three or more were wrong, that can be one that was right.
+    Corrected(u8),
     /// More bits were wrong than can be corrected.
     Uncorrectable,
     /// A write of 8 bytes that fill one doubleword, or a beat of a burst write; neither looks at the old cell.
@@ -52,13 +57,17 @@ impl Answer {
     }
 }
 
+/// A part has its kind in the low byte and, if it was corrected, its flip bit in the next. All else is 0.
 fn part(number: u32) -> Option<Part> {
-    let kind = match number {
-        1 => Kind::Clean,
-        2 => Kind::Corrected,
-        3 => Kind::Uncorrectable,
-        4 => Kind::Stored,
-        5 => Kind::NoBank,
+    let [kind, bit, 0, 0] = number.to_le_bytes() else {
+        return None;
+    };
+    let kind = match (kind, bit) {
+        (1, 0) => Kind::Clean,
+        (2, 0..=LAST_BIT) => Kind::Corrected(bit),
+        (3, 0) => Kind::Uncorrectable,
+        (4, 0) => Kind::Stored,
+        (5, 0) => Kind::NoBank,
         _ => return None,
     };
     Some(Part { kind })
@@ -88,7 +97,7 @@ mod tests {
         let given = answer([4, 1, 2, 3, 4]).expect("an answer");
         let kinds = [
             Kind::Clean,
-            Kind::Corrected,
+            Kind::Corrected(0),
             Kind::Uncorrectable,
             Kind::Stored,
         ];
@@ -102,6 +111,22 @@ mod tests {
     }
 
     #[test]
+    fn a_corrected_part_has_its_bit() {
+        for bit in 0..=71 {
+            let given = answer([1, u32::from(bit) << 8 | 2, 0, 0, 0]);
+            assert_eq!(given.map(|x| x.kind()), Ok(Kind::Corrected(bit)));
+        }
+        let given = answer([4, 0x4702, 0x0902, 1, 0x4002]).expect("an answer");
+        let kinds = [
+            Kind::Corrected(71),
+            Kind::Corrected(9),
+            Kind::Clean,
+            Kind::Corrected(64),
+        ];
+        assert!(given.kinds().eq(kinds));
+    }
+
+    #[test]
     fn answers_that_are_never_given_are_told_apart() {
         for numbers in [
             [0, 1, 0, 0, 0],
@@ -109,6 +134,15 @@ mod tests {
             [1, 0, 0, 0, 0],
             [1, 6, 0, 0, 0],
             [2, 1, 0, 0, 0],
+            // Bit 72; a bit of a part that was not corrected; more than a bit.
+            [1, 0x4802, 0, 0, 0],
+            [1, 0x0501, 0, 0, 0],
+            [1, 0x0503, 0, 0, 0],
+            [1, 0x0504, 0, 0, 0],
+            [1, 0x0505, 0, 0, 0],
+            [2, 1, 0x0501, 0, 0],
+            [1, 0x0001_0002, 0, 0, 0],
+            [1, 0x0100_0001, 0, 0, 0],
         ] {
             assert_eq!(answer(numbers), Err(Refusal::Unknown(0)));
         }

@@ -3,7 +3,8 @@
 //!
 //! Each returns 0 if the call is accepted, and otherwise the number of the refusal in the low byte and the bank that
 //! it is about in the next. What an accepted call gives is put in its last parameter: an answer is the number of its
-//! parts and four parts, each a kind; a place is 1, bank, row, column and cell, or five zeros if there is no bank.
+//! parts and four parts, each with its kind in the low byte and, if it was corrected, its flip bit in the next; a place
+//! is 1, bank, row, column and cell, or five zeros if there is no bank.
 //!
 //! # Safety
 //!

@@ -23,7 +23,7 @@
 //! assert_eq!(memory.write(0x10, &[1, 2, 3, 4, 5, 6, 7, 8])?.kind(), Kind::Stored);
 //! memory.flip(0x10, 2)?;
 //! let mut buffer = [0; 2];
-//! assert_eq!(memory.read(0x10, &mut buffer)?.kind(), Kind::Corrected);
+//! assert_eq!(memory.read(0x10, &mut buffer)?.kind(), Kind::Corrected(2)); // bit 2 was wrong
 //! assert_eq!(buffer, [1, 2]);
 //! # Ok::<(), mpc106::Refusal>(())
 //! ```

@@ -6,6 +6,7 @@ use crate::refusal::{accepted, Refusal};
 
 impl Record {
     /// Reads as many bytes as the buffer has, 1 to 8: refusals 5, 6, 7, 9.
+    /// [`Kind::Corrected`](crate::Kind::Corrected) has the bit that was wrong, which need not lie in one of these bytes.
     /// With [`Kind::Uncorrectable`](crate::Kind::Uncorrectable) the buffer gets the bytes as stored, and with
     /// [`Kind::NoBank`](crate::Kind::NoBank) each of its bytes becomes FF.
     ///
@@ -27,7 +28,7 @@ impl Record {
     /// memory.flip(0x18, 5)?;
     /// let mut buffer = [0; 4];
     /// let answer = memory.read(0x16, &mut buffer)?;
-    /// assert!(answer.kinds().eq([Kind::Clean, Kind::Corrected]));
+    /// assert!(answer.kinds().eq([Kind::Clean, Kind::Corrected(5)]));
     /// assert_eq!(buffer, [1, 2, 3, 4]);
     ///
     /// let answer = memory.read(0x1f_fffd, &mut buffer)?; // the last byte is behind the bank
@@ -59,7 +60,7 @@ impl Record {
 
     /// Writes 1 to 8 bytes: refusals 5, 6, 7, 9. Eight in one doubleword give
     /// [`Kind::Stored`](crate::Kind::Stored); fewer are merged into the corrected doubleword, which stays as it
-    /// was if it is uncorrectable.
+    /// was if it is uncorrectable. [`Kind::Corrected`](crate::Kind::Corrected) has the bit that was wrong before.
     ///
     /// If the bytes run into the next doubleword, the write is a split, with the two parts of [`read`](Record::read).
     /// Each is a write of its own bytes, fewer than eight, so a split never gives [`Kind::Stored`](crate::Kind::Stored).
@@ -86,6 +87,7 @@ impl Record {
     }
 
     /// Inverts one of bits 0 to 71 of the cell of the doubleword that holds the address: refusals 5, 8, 10, 9.
+    /// Bit 0 is the top bit of data byte 0, bit 63 the bottom bit of data byte 7, bit 64 + j is bit j of the check byte.
     pub fn flip(&self, cells: &mut [u8], address: u32, bit: u32) -> Result<(), Refusal> {
         // SAFETY: the pointer is to as many bytes as the length says; the borrows are apart.
         accepted(unsafe {
@@ -99,7 +101,8 @@ impl Record {
         })
     }
 
-    /// Stores the doubleword that holds the address again if it was corrected: refusals 5, 9.
+    /// Stores the doubleword that holds the address again if it was corrected, and answers with the bit that was wrong:
+    /// refusals 5, 9.
     pub fn scrub(&mut self, cells: &mut [u8], address: u32) -> Result<Answer, Refusal> {
         let mut numbers = [0; 5];
         // SAFETY: the pointer is to as many bytes as the length says; the borrows are apart.
@@ -119,9 +122,9 @@ impl Record {
     /// doubleword each: refusals 5, 19, 20, 9.
     ///
     /// The first beat is at the address, a multiple of 8. Each further beat is at the next doubleword, and after the
-    /// last doubleword of the line comes the first. Each beat is a [`read`](Record::read) of 8
-    /// bytes: it gives a part of the answer and eight bytes of the buffer, in the order of the beats, and is reported
-    /// with its own address. If one of the four cells is not lent, the burst is refused whole.
+    /// last doubleword of the line comes the first. Each beat is a [`read`](Record::read) of 8 bytes: it gives a part of
+    /// the answer, with a bit of its own if it was corrected, and eight bytes of the buffer, in the order of the beats,
+    /// and is reported with its own address. If one of the four cells is not lent, the burst is refused whole.
     ///
     /// ```
     /// use mpc106::{offset, Kind, Record, CELL_BYTES, LINE_BYTES};
@@ -139,7 +142,7 @@ impl Record {
     /// let mut line = [0; LINE_BYTES];
     /// let answer = record.burst_read(&cells, 0x18, &mut line)?; // beats at 0x18, 0x00, 0x08, 0x10
     /// let clean = Kind::Clean;
-    /// assert!(answer.kinds().eq([clean, Kind::Corrected, clean, clean]));
+    /// assert!(answer.kinds().eq([clean, Kind::Corrected(5), clean, clean]));
     /// assert_eq!(line[..8], [1; 8]);
     /// assert_eq!(line[8..16], [2; 8]);
     /// # Ok::<(), mpc106::Refusal>(())

@@ -73,11 +73,12 @@ fn each_beat_is_reported() {
     }
     let mut buffer = [0xee; LINE_BYTES];
     let answer = memory.burst_read(0x58, &mut buffer);
+    // Each beat has the bit of its own doubleword: 71 at 58, 13 at 50.
     let expected = [
-        Kind::Corrected,
+        Kind::Corrected(71),
         Kind::Clean,
         Kind::Uncorrectable,
-        Kind::Corrected,
+        Kind::Corrected(13),
     ];
     assert_eq!(kinds(answer), Ok(expected.to_vec()));
     // The two inverted bits of the uncorrectable doubleword stay.

@@ -122,7 +122,7 @@ fn both_parts_are_corrected() {
     assert_eq!(memory.flip(0x48, 71), Ok(()));
     let mut reader = memory.clone();
     let mut buffer = [0; 8];
-    let expected = Ok(vec![Kind::Corrected; 2]);
+    let expected = Ok(vec![Kind::Corrected(63), Kind::Corrected(71)]);
     assert_eq!(kinds(reader.read(0x47, &mut buffer)), expected);
     assert_eq!(buffer, HELD[7..15]);
     assert_eq!(reader.cells, memory.cells);

@@ -82,11 +82,11 @@ fn syndromes() {
     };
     assert_eq!(of(0x03), (Ok(Kind::Uncorrectable), [0; 8], 0x03));
     // Flip bit 70 is check bit 6: the data stays.
-    assert_eq!(of(0x40), (Ok(Kind::Corrected), [0; 8], 0));
+    assert_eq!(of(0x40), (Ok(Kind::Corrected(70)), [0; 8], 0));
     // Data bit 56 is the top bit of byte 7: the data with that bit has this check byte.
     assert_eq!(
         of(0x1f),
-        (Ok(Kind::Corrected), [0, 0, 0, 0, 0, 0, 0, 0x80], 0x1f)
+        (Ok(Kind::Corrected(56)), [0, 0, 0, 0, 0, 0, 0, 0x80], 0x1f)
     );
 }
 
@@ -286,7 +286,7 @@ fn short_writes_merge_into_corrected_data() {
     assert_eq!(record.flip(&mut lent, 0, 0), Ok(()));
     assert_eq!(
         kind(record.write(&mut lent, 3, &[0xaa])),
-        Ok(Kind::Corrected)
+        Ok(Kind::Corrected(0))
     );
     assert_eq!(record.read_register(0xb8), Ok(1));
     let mut buffer = [0; 8];
@@ -348,11 +348,14 @@ fn a_memory_has_the_cells_of_its_banks() {
     let mut memory = Memory::new(two_banks()).expect("memory is on");
     assert_eq!(memory.cells, cells((1 << 18) + (1 << 19)));
     assert_eq!(kind(memory.write(0x40_0000, &[7; 8])), Ok(Kind::Stored));
-    assert_eq!(memory.flip(0x40_0000, 0), Ok(()));
+    assert_eq!(memory.flip(0x40_0000, 9), Ok(()));
     let mut byte = [0];
-    assert_eq!(kind(memory.read(0x40_0001, &mut byte)), Ok(Kind::Corrected));
+    assert_eq!(
+        kind(memory.read(0x40_0001, &mut byte)),
+        Ok(Kind::Corrected(9))
+    );
     assert_eq!(byte, [7]);
-    assert_eq!(kind(memory.scrub(0x40_0007)), Ok(Kind::Corrected));
+    assert_eq!(kind(memory.scrub(0x40_0007)), Ok(Kind::Corrected(9)));
     assert_eq!(kind(memory.scrub(0x40_0007)), Ok(Kind::Clean));
     let mut fewer = Memory::with_cells(memory.record, cells(1));
     assert_eq!(fewer.scrub(0x40_0007), Err(Refusal::NotLent));
@@ -368,7 +371,7 @@ fn the_list_of_the_line_program() {
     let mut buffer = [0; 8];
     assert_eq!(
         kind(record.read(&lent, 0x10, &mut buffer)),
-        Ok(Kind::Corrected)
+        Ok(Kind::Corrected(2))
     );
     assert_eq!(buffer, data);
     assert_eq!(record.read_register(0xb8), Ok(1));

@@ -163,7 +163,7 @@ static void structs_have_no_gaps(void)
     CHECK(sizeof(mpc106_answer) == 20 && offsetof(mpc106_answer, part) == 4);
     CHECK(sizeof(mpc106_place) == 20 && offsetof(mpc106_place, bank) == 4 && offsetof(mpc106_place, row) == 8);
     CHECK(offsetof(mpc106_place, column) == 12 && offsetof(mpc106_place, cell) == 16);
-    CHECK(MPC106_VERSION >= 20000);
+    CHECK(MPC106_VERSION >= 30000);
 }
 
 static void refusals_have_sentences(void)

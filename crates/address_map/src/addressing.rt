@@ -68,7 +68,8 @@ pub(crate) fn cell_of(fields: &[u16; FIELDS], address: u32) -> Target
 {
     let x = select(fields, address >> 20);
     if x.bank < NO_BANK {
-        return Target::Cell(x.first + cell_in_bank(x.bits, address));
+        let k = x.first + cell_in_bank(x.bits, address);
+        return Target::Cell(k as usize);
     }
     if x.bank == NO_BANK {
         return Target::NoBank;

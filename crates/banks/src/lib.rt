@@ -62,7 +62,7 @@ pub enum Mapping {
 pub enum Target {
     NotReady,
     NoBank,
-    Cell(u32),
+    Cell(usize),
 }
 
 // MAP-7: how many cells the enabled banks have together.

@@ -38,13 +38,13 @@ fn find_bit(columns: &[u8], s: u8) -> Reading
     let mut b: usize = 0;
     while b < 64 {
         if columns[b] == s {
-            return Reading::Corrected(b);
+            return Reading::Corrected(b as u8);
         }
         b += 1;
     }
     while b < 72 {
         if unit(b - 64) == s {
-            return Reading::Corrected(b);
+            return Reading::Corrected(b as u8);
         }
         b += 1;
     }
@@ -114,7 +114,7 @@ pub fn encode(lent: bool, columns: &[u8], doubleword: u64) -> [u8; 9]
     ]
 }
 
-fn with_bit_flipped(doubleword: u64, b: usize) -> u64
+fn with_bit_flipped(doubleword: u64, b: u8) -> u64
     ensures { λ x. ⌜ bytesOfNumber x ≡ flipBit (bytesOfNumber doubleword) b ⌝ }
 {
     if 63 < b {

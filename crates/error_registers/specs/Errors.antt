@@ -42,7 +42,7 @@ counted r a = cond (ltb (at r 0xB8) 255) (rose (stored r 0xB8 (at r 0xB8 + 1)) a
 -- ERR-1, ERR-3, ERR-4, ERR-8: what each answer does to the record; C0 and C4 decide it by three bits (REG-9)
 unfoldable pub reported : Kind → ℕ → Registers → Registers
 reported Clean a r = r
-reported Corrected a r = counted r a
+reported (Corrected b) a r = counted r a
 reported Uncorrectable a r = cond (bitSet r 0xC4 3) (detected r 0xC5 3 a) r
 reported Stored a r = r
 reported NoBank a r = cond (bitSet r 0xC0 5) (detected r 0xC1 5 a) r

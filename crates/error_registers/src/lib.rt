@@ -71,7 +71,7 @@ pub fn report(registers: &mut [u8; 256], kind: Kind, address: u32)
 {
     match kind {
         Kind::Clean => {}
-        Kind::Corrected => count(registers, address),
+        Kind::Corrected(_) => count(registers, address),
         Kind::Uncorrectable => {
             if is_set(registers, Registers::ERROR_ENABLE_2, 3) {
                 detect(registers, Registers::ERROR_DETECTION_2, 3, address);

@@ -30,7 +30,7 @@ use Rattle.machine.proofs.LendingLaws.{reach}
 use Rattle.call_lists.proofs.LendingLaws.{reachOf, reachAll}
 use Rattle.flat.proofs.PremiseTests.{isAtErrorRegisters, allAtErrorRegisters, renewedBefore, eachRenewed, isSpaced}
 use Rattle.flat.proofs.Octets.{octet}
-use Rattle.flat.proofs.Slips.{slipping, writeDropped, markCleared, correctedOnce}
+use Rattle.flat.proofs.Slips.{slipping, writeDropped, markCleared, correctedOnce, bitForgotten}
 use Rattle.flat.proofs.OneBank.{bankOff, bankOn}
 
 -- the answer of a call that consists of one access
@@ -71,10 +71,10 @@ abbrev pub flippedTwiceThen : Option Given → List (Option Given)
 flippedTwiceThen last =
     answered Clean []
     ∷ answered Flipped []
-    ∷ answered Corrected (0 ∷ [])
+    ∷ answered (Corrected 0) (0 ∷ [])
     ∷ answered Clean []
-    ∷ some (given (zeros Clean ∷ zeros Clean ∷ zeros Clean ∷ zeros Corrected ∷ []))
-    ∷ some (given (got Corrected (0 ∷ []) ∷ got Clean (0 ∷ []) ∷ []))
+    ∷ some (given (zeros Clean ∷ zeros Clean ∷ zeros Clean ∷ zeros (Corrected 0) ∷ []))
+    ∷ some (given (got (Corrected 0) (0 ∷ []) ∷ got Clean (0 ∷ []) ∷ []))
     ∷ declinedWith 6
     ∷ declinedWith 7
     ∷ declinedWith 19
@@ -89,7 +89,7 @@ abbrev pub writtenThenRead : List Call
 writtenThenRead = memory (write 0 (0x12 ∷ [])) ∷ memory (read 0 1) ∷ []
 
 abbrev pub flippedThenReadTwice : List Call
-flippedThenReadTwice = memory (flip 0 0) ∷ memory (read 0 1) ∷ memory (read 0 1) ∷ []
+flippedThenReadTwice = memory (flip 0 1) ∷ memory (read 0 1) ∷ memory (read 0 1) ∷ []
 
 -- a cell that is not zero, though it reads as clean
 abbrev pub otherCell : List ℕ
@@ -116,23 +116,23 @@ longSteps =
     ∷ (writeRegister 0xB9 2, none)
     ∷ (memory (write 0x10 (0x80 ∷ 1 ∷ 2 ∷ 3 ∷ 4 ∷ 5 ∷ 6 ∷ 7 ∷ [])), answered Stored [])
     ∷ (memory (flip 0x10 2), answered Flipped [])
-    ∷ (memory (read 0x10 8), answered Corrected (0x80 ∷ 1 ∷ 2 ∷ 3 ∷ 4 ∷ 5 ∷ 6 ∷ 7 ∷ []))
-    ∷ (memory (write 0x12 (0xAB ∷ 0xCD ∷ [])), answered Corrected [])
+    ∷ (memory (read 0x10 8), answered (Corrected 2) (0x80 ∷ 1 ∷ 2 ∷ 3 ∷ 4 ∷ 5 ∷ 6 ∷ 7 ∷ []))
+    ∷ (memory (write 0x12 (0xAB ∷ 0xCD ∷ [])), answered (Corrected 2) [])
     ∷ (memory (read 0x11 4), answered Clean (1 ∷ 0xAB ∷ 0xCD ∷ 4 ∷ []))
     ∷ (readRegister 0xB8, none)
     ∷ (memory (flip 0x17 71), answered Flipped [])
     ∷ (memory (flip 0x10 72), declinedWith 8)
-    ∷ (memory (scrub 0x14), answered Corrected [])
+    ∷ (memory (scrub 0x14), answered (Corrected 71) [])
     ∷ (memory (scrub 0x14), answered Clean [])
     ∷ (memory (flip 0x08 5), answered Flipped [])
     ∷ (memory (flip 0x10 63), answered Flipped [])
     ∷ (memory (write 0x08 (replicate 8 0xFF)), answered Stored [])
     ∷ (memory (write 0x0F (0 ∷ [])), answered Clean [])
     ∷ (memory (read 0x0E 2), answered Clean (0xFF ∷ 0 ∷ []))
-    ∷ (memory (read 0x17 1), answered Corrected (7 ∷ []))
+    ∷ (memory (read 0x17 1), answered (Corrected 63) (7 ∷ []))
     ∷ (memory (read 0x10 0), declinedWith 6)
     ∷ (memory (write 0x10 (replicate 9 0)), declinedWith 6)
-    ∷ (memory (read 0x17 2), some (given (got Corrected (7 ∷ []) ∷ got Clean (0 ∷ []) ∷ [])))
+    ∷ (memory (read 0x17 2), some (given (got (Corrected 63) (7 ∷ []) ∷ got Clean (0 ∷ []) ∷ [])))
     ∷ (memory (read 0xFFFFFFFC 4), answered NoBank (replicate 4 0xFF))
     ∷ (memory (read 0xFFFFFFFC 5), declinedWith 7)
     ∷ (memory (flip outside 0), declinedWith 10)
@@ -147,19 +147,19 @@ longSteps =
     ∷ (memory (flip 0x18 9), answered Flipped [])
     ∷ (
       memory (burstRead 0x10 32),
-      some (given (got Corrected (0x80 ∷ 1 ∷ 0xAB ∷ 0xCD ∷ 4 ∷ 5 ∷ 6 ∷ 7 ∷ []) ∷ zeros Corrected ∷ zeros Clean ∷ got Clean (replicate 7 0xFF ++ 0 ∷ []) ∷ [])),
+      some (given (got (Corrected 63) (0x80 ∷ 1 ∷ 0xAB ∷ 0xCD ∷ 4 ∷ 5 ∷ 6 ∷ 7 ∷ []) ∷ zeros (Corrected 9) ∷ zeros Clean ∷ got Clean (replicate 7 0xFF ++ 0 ∷ []) ∷ [])),
     )
     ∷ (memory (burstWrite 0x18 line), some (given (got Stored [] ∷ got Stored [] ∷ got Stored [] ∷ got Stored [] ∷ [])))
     ∷ (memory (flip 0x10 1), answered Flipped [])
     ∷ (
       memory (burstRead 0x08 32),
-      some (given (got Clean (replicate 8 3) ∷ got Corrected (replicate 8 4) ∷ got Clean (replicate 8 1) ∷ got Clean (replicate 8 2) ∷ [])),
+      some (given (got Clean (replicate 8 3) ∷ got (Corrected 1) (replicate 8 4) ∷ got Clean (replicate 8 1) ∷ got Clean (replicate 8 2) ∷ [])),
     )
     ∷ (memory (flip 0x08 3), answered Flipped [])
-    ∷ (memory (write 0x0E (0x21 ∷ 0x22 ∷ 0x23 ∷ 0x24 ∷ [])), some (given (got Corrected [] ∷ got Corrected [] ∷ [])))
+    ∷ (memory (write 0x0E (0x21 ∷ 0x22 ∷ 0x23 ∷ 0x24 ∷ [])), some (given (got (Corrected 3) [] ∷ got (Corrected 1) [] ∷ [])))
     ∷ (memory (flip 0x0F 70), answered Flipped [])
     ∷ (memory (flip 0x13 0), answered Flipped [])
-    ∷ (memory (read 0x0C 8), some (given (got Corrected (3 ∷ 3 ∷ 0x21 ∷ 0x22 ∷ []) ∷ got Corrected (0x23 ∷ 0x24 ∷ 4 ∷ 4 ∷ []) ∷ [])))
+    ∷ (memory (read 0x0C 8), some (given (got (Corrected 70) (3 ∷ 3 ∷ 0x21 ∷ 0x22 ∷ []) ∷ got (Corrected 0) (0x23 ∷ 0x24 ∷ 4 ∷ 4 ∷ []) ∷ [])))
     ∷ (memory (burstRead 0x0C 31), declinedWith 19)
     ∷ (memory (burstRead 0x08 31), declinedWith 20)
     ∷ (memory (burstWrite 0x08 []), declinedWith 20)
@@ -205,7 +205,7 @@ pub record Computed : Type 0 where
   -- two flips with no write or scrub of the doubleword between
   pub twice-reached : Reached (replicate 36 0) flippedTwice
   pub twice-cells : cellsAnswer (replicate 36 0) flippedTwice ≡ flippedTwiceThen (answered Uncorrectable (0xC0 ∷ []))
-  pub twice-flat : flatRun spans blank flippedTwice .0 ≡ flippedTwiceThen (answered Corrected (0 ∷ []))
+  pub twice-flat : flatRun spans blank flippedTwice .0 ≡ flippedTwiceThen (answered (Corrected 1) (0 ∷ []))
   -- memory is switched off, and a read
   pub off-spaced : isSpaced spans switchedOff ≡ true
   pub off-cells : (cells : List ℕ) → cellsAnswer cells switchedOff ≡ none ∷ declinedWith 5 ∷ []
@@ -218,9 +218,10 @@ pub record Computed : Type 0 where
   -- a flip and two reads
   pub read-spaced : isSpaced spans flippedThenReadTwice ≡ true
   pub read-reached : Reached zeroCell flippedThenReadTwice
-  pub read-cells : cellsAnswer zeroCell flippedThenReadTwice ≡ answered Flipped [] ∷ answered Corrected (0 ∷ []) ∷ answered Corrected (0 ∷ []) ∷ []
-  pub read-cleared : slipping markCleared spans blank flippedThenReadTwice ≡ answered Flipped [] ∷ answered Corrected (0 ∷ []) ∷ answered Clean (0 ∷ []) ∷ []
-  pub read-once : slipping correctedOnce spans blank flippedThenReadTwice ≡ answered Flipped [] ∷ answered Corrected (0 ∷ []) ∷ answered Clean (0x80 ∷ []) ∷ []
+  pub read-cells : cellsAnswer zeroCell flippedThenReadTwice ≡ answered Flipped [] ∷ answered (Corrected 1) (0 ∷ []) ∷ answered (Corrected 1) (0 ∷ []) ∷ []
+  pub read-cleared : slipping markCleared spans blank flippedThenReadTwice ≡ answered Flipped [] ∷ answered (Corrected 1) (0 ∷ []) ∷ answered Clean (0 ∷ []) ∷ []
+  pub read-once : slipping correctedOnce spans blank flippedThenReadTwice ≡ answered Flipped [] ∷ answered (Corrected 1) (0 ∷ []) ∷ answered Clean (0x40 ∷ []) ∷ []
+  pub read-nameless : slipping bitForgotten spans blank flippedThenReadTwice ≡ answered Flipped [] ∷ answered (Corrected 0) (0 ∷ []) ∷ answered (Corrected 0) (0 ∷ []) ∷ []
   -- the long list
   pub long-registers : allAtErrorRegisters longList ≡ true
   pub long-spaced : isSpaced spans longList ≡ true
@@ -261,6 +262,7 @@ computed =
       read-cells = refl;
       read-cleared = refl;
       read-once = refl;
+      read-nameless = refl;
       long-registers = refl;
       long-spaced = refl;
       long-reached = refl;

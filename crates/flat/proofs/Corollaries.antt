@@ -1,4 +1,4 @@
--- What `flat-comparison` says about single answers: none is "uncorrectable", and an answer is "corrected" exactly if a mark is set.
+-- What `flat-comparison` says about single answers: none is "uncorrectable", and an answer is "corrected" exactly if a mark is set, at its bit.
 use Prim.Native.Nat.{ℕ, zero, suc, _*_, _/_, _≤_}
 use mathlib.Core.Path.{_≡_, refl, ap₂}
 use mathlib.Core.Bool.{Bool, true, false, not, cond, _&&_}
@@ -29,7 +29,7 @@ use Rattle.flat.proofs.Comparison.{comparison}
 
 abbrev pub isUncorrectable : Kind → Bool
 isUncorrectable Clean = false
-isUncorrectable Corrected = false
+isUncorrectable (Corrected b) = false
 isUncorrectable Uncorrectable = true
 isUncorrectable Stored = false
 isUncorrectable NoBank = false
@@ -78,15 +78,16 @@ run-certain spans (memory c ∷ cs) f = (go (byCall spans c), run-certain spans 
     go none = accesses-certain spans (parts c) f
     go (some n) = tt
 
--- ---- "corrected" exactly if a mark is set
+-- ---- "corrected" exactly if a mark is set, and at its bit
 
-abbrev pub isCorrected : Kind → Bool
-isCorrected Clean = false
-isCorrected Corrected = true
-isCorrected Uncorrectable = false
-isCorrected Stored = false
-isCorrected NoBank = false
-isCorrected Flipped = false
+-- the flip bit of an answer that is "corrected"
+abbrev pub correctedBit : Kind → Option ℕ
+correctedBit Clean = none
+correctedBit (Corrected b) = some b
+correctedBit Uncorrectable = none
+correctedBit Stored = none
+correctedBit NoBank = none
+correctedBit Flipped = none
 
 -- an access that looks at what the doubleword held: a read, a short write, a scrub
 abbrev pub looks : Access → Bool
@@ -95,33 +96,33 @@ looks (writeIn a bs) = not (eqb (length bs) 8)
 looks (flipIn a b) = false
 looks (scrubIn a) = true
 
--- it selects a bank, and the mark of its doubleword is set
-abbrev pub meetsMark : Spans → Flat → Access → Bool
-meetsMark spans f x = looks x && (spans .holds (addressOf x) && isSome (f .mark (addressOf x / 8)))
+-- the mark that it meets, if it selects a bank
+abbrev pub markMet : Spans → Flat → Access → Option ℕ
+markMet spans f x = cond (looks x && spans .holds (addressOf x)) (f .mark (addressOf x / 8)) none
 
-mark-corrected : (m : Option ℕ) → isCorrected (byMark m) ≡ isSome m
+mark-corrected : (m : Option ℕ) → correctedBit (byMark m) ≡ m
 mark-corrected none = refl
 mark-corrected (some b) = refl
 
-access-corrected : (spans : Spans) (f : Flat) (x : Access) → isCorrected (flatAccess spans f x .0 .kind) ≡ meetsMark spans f x
+access-corrected : (spans : Spans) (f : Flat) (x : Access) → correctedBit (flatAccess spans f x .0 .kind) ≡ markMet spans f x
 unfolding flatAccess flatInSpan missed
 access-corrected spans f x = go (spans .holds (addressOf x)) x
   where
-    full : (t : Bool) (m : Option ℕ) → isCorrected (cond t Stored (byMark m)) ≡ (not t && isSome m)
+    full : (t : Bool) (m : Option ℕ) → correctedBit (cond t Stored (byMark m)) ≡ cond (not t && true) m none
     full true m = refl
     full false m = mark-corrected m
 
-    none-of : (t : Bool) → false ≡ (t && false)
-    none-of true = refl
-    none-of false = refl
+    none-of : (t : Bool) (m : Option ℕ) → none ≡ cond (t && false) m none
+    none-of true m = refl
+    none-of false m = refl
 
-    go : (t : Bool) (x : Access) → isCorrected (cond t (flatInSpan f x) (missed x, f) .0 .kind) ≡ (looks x && (t && isSome (f .mark (addressOf x / 8))))
+    go : (t : Bool) (x : Access) → correctedBit (cond t (flatInSpan f x) (missed x, f) .0 .kind) ≡ cond (looks x && t) (f .mark (addressOf x / 8)) none
     go true (readIn a n) = mark-corrected (f .mark (a / 8))
     go true (writeIn a bs) = full (eqb (length bs) 8) (f .mark (a / 8))
     go true (flipIn a b) = refl
     go true (scrubIn a) = mark-corrected (f .mark (a / 8))
     go false (readIn a n) = refl
-    go false (writeIn a bs) = none-of (not (eqb (length bs) 8))
+    go false (writeIn a bs) = none-of (not (eqb (length bs) 8)) (f .mark (a / 8))
     go false (flipIn a b) = refl
     go false (scrubIn a) = refl
 
@@ -134,18 +135,18 @@ place-of spans (d ∷ cs) f zero c e = let z : d ≡ c = cc in rw z
 place-of spans (d ∷ cs) f (suc i) c e = place-of spans cs (flatCall spans f d .1) i c e
 
 -- of each access of a call
-abbrev pub correctedOf : List Got → List Bool
-correctedOf [] = []
-correctedOf (g ∷ gs) = isCorrected (g .kind) ∷ correctedOf gs
+abbrev pub correctedBits : List Got → List (Option ℕ)
+correctedBits [] = []
+correctedBits (g ∷ gs) = correctedBit (g .kind) ∷ correctedBits gs
 
-abbrev pub meetsMarks : Spans → Flat → List Access → List Bool
-meetsMarks spans f [] = []
-meetsMarks spans f (x ∷ xs) = meetsMark spans f x ∷ meetsMarks spans (flatAccess spans f x .1) xs
+abbrev pub marksMet : Spans → Flat → List Access → List (Option ℕ)
+marksMet spans f [] = []
+marksMet spans f (x ∷ xs) = markMet spans f x ∷ marksMet spans (flatAccess spans f x .1) xs
 
-accesses-corrected : (spans : Spans) (xs : List Access) (f : Flat) → correctedOf (flatAccesses spans f xs .0) ≡ meetsMarks spans f xs
+accesses-corrected : (spans : Spans) (xs : List Access) (f : Flat) → correctedBits (flatAccesses spans f xs .0) ≡ marksMet spans f xs
 unfolding flatAccesses
 accesses-corrected spans [] f = refl
-accesses-corrected spans (x ∷ xs) f = ap₂ {C = List Bool} _∷_ (access-corrected spans f x) (accesses-corrected spans xs (flatAccess spans f x .1))
+accesses-corrected spans (x ∷ xs) f = ap₂ {C = List (Option ℕ)} _∷_ (access-corrected spans f x) (accesses-corrected spans xs (flatAccess spans f x .1))
 
 call-got : (spans : Spans) (f : Flat) (c : MemoryCall) (gs : List Got) → flatCall spans f (memory c) .0 ≡ some (given gs) → gs ≡ flatAccesses spans f (parts c) .0
 unfolding flatCall flatPerformed
@@ -169,9 +170,9 @@ module _ (cols : List ℕ) (good : accepted cols ≡ true) (r : Registers) (w : 
   never-uncorrectable = rw same (run-certain (spansOf (setupOf r)) cs blank)
 
   -- c is the memory call at place i of the list, and gs what its accesses give: each is "corrected" exactly if a mark is set after the i
-  -- calls before it and the accesses before it
+  -- calls before it and the accesses before it, and the bit is that of the mark
   pub corrected-where-marked : (i : ℕ) (c : MemoryCall) (gs : List Got) → getElem? cs i ≡ some (memory c) → getElem? answers i ≡ some (some (given gs))
-      → correctedOf gs ≡ meetsMarks (spansOf (setupOf r)) (flatRun (spansOf (setupOf r)) blank (take i cs) .1) (parts c)
+      → correctedBits gs ≡ marksMet (spansOf (setupOf r)) (flatRun (spansOf (setupOf r)) blank (take i cs) .1) (parts c)
   corrected-where-marked i c gs e a =
       let spans = spansOf (setupOf r) in
       let f = flatRun spans blank (take i cs) .1 in

@@ -26,7 +26,7 @@ use Rattle.call_lists.proofs.LendingLaws.{reachAll, run-first, run-zeros}
 use Rattle.flat.proofs.PremiseTests.{spaced}
 use Rattle.flat.proofs.Comparison.{flat-comparison}
 use Rattle.flat.proofs.OneBank.{bankOff, bankOn, switched-on, bytes-off, bytes-on}
-use Rattle.flat.proofs.Slips.{Slip, slipping, writeDropped, markCleared, correctedOnce}
+use Rattle.flat.proofs.Slips.{Slip, slipping, writeDropped, markCleared, correctedOnce, bitForgotten}
 use Rattle.flat.proofs.Answers.{answered, readOnce, flippedTwice, switchedOff, writtenThenRead, flippedThenReadTwice, otherCell, spans, computed}
 
 -- the list has the flat machine's answers
@@ -147,7 +147,7 @@ write-dropped claim =
     (λ z. let k = bytes-at 1 z in never (cc))
 
 module _ (slip : Slip) (claim : ComparedWith (λ spans cs. slipping slip spans blank cs)) where
-  read-twice : slipping slip spans blank flippedThenReadTwice ≡ answered Flipped [] ∷ answered Corrected (0 ∷ []) ∷ answered Corrected (0 ∷ []) ∷ []
+  read-twice : slipping slip spans blank flippedThenReadTwice ≡ answered Flipped [] ∷ answered (Corrected 1) (0 ∷ []) ∷ answered (Corrected 1) (0 ∷ []) ∷ []
   read-twice =
       sym (claim bankOn switched-on enough on-enough flippedThenReadTwice (tt, (tt, (tt, tt))) (spaced spans flippedThenReadTwice (computed .read-spaced)))
       ∙ lent-enough 9 (omega arith) flippedThenReadTwice (computed .read-reached) (computed .read-cells)
@@ -159,3 +159,7 @@ mark-cleared claim = let k = kind-at 2 (sym (computed .read-cleared) ∙ read-tw
 -- correction at the first read only
 pub corrected-once : ComparedWith (λ spans cs. slipping correctedOnce spans blank cs) → ⊥
 corrected-once claim = let k = bytes-at 2 (sym (computed .read-once) ∙ read-twice correctedOnce claim) in never (cc)
+
+-- a mark without its bit
+pub bit-forgotten : ComparedWith (λ spans cs. slipping bitForgotten spans blank cs) → ⊥
+bit-forgotten claim = let k = kind-at 1 (sym (computed .read-nameless) ∙ read-twice bitForgotten claim) in never (cc)

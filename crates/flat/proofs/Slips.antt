@@ -59,3 +59,11 @@ storedBytes (some q) f = record { byte = asStored (f .byte) q (f .mark q); mark 
 
 abbrev pub correctedOnce : Slip
 correctedOnce c before after = storedBytes (readBy c) after
+
+-- a mark does not remember its bit: every one is taken for bit 0
+abbrev pub nameless : Option ℕ → Option ℕ
+nameless none = none
+nameless (some b) = some 0
+
+abbrev pub bitForgotten : Slip
+bitForgotten c before after = record { byte = after .byte; mark = λ q. nameless (after .mark q) }

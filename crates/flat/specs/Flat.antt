@@ -11,8 +11,8 @@ use Rattle.calls.specs.declared.Kind.the-variants.{Clean, Corrected, Stored, Fl
 use Rattle.calls.specs.Calls.{Access, readIn, writeIn, flipIn, scrubIn, addressOf, parts, Got, got, Given, Call, memory, readRegister, writeRegister}
 use Rattle.calls.specs.Spans.{Spans, byCall, missed}
 
--- FLAT-1: a byte for each address, and a mark for doubleword q, whose addresses are those from 8 q on. FLAT-5: the mark remembers the flipped bit,
--- for the proof; no answer reads it. Outside the spans nothing is ever read
+-- FLAT-1: a byte for each address, and a mark for doubleword q, whose addresses are those from 8 q on. FLAT-5: the mark remembers the flipped bit.
+-- Outside the spans nothing is ever read
 pub record Flat : Type 0 where
   pub byte : ℕ → ℕ
   pub mark : ℕ → Option ℕ
@@ -21,10 +21,10 @@ pub record Flat : Type 0 where
 unfoldable pub blank : Flat
 blank = record { byte = λ a. 0; mark = λ q. none }
 
--- FLAT-3: corrected or clean, by the mark
+-- FLAT-3: clean, or corrected at the bit that the mark remembers
 abbrev pub byMark : Option ℕ → Kind
 byMark none = Clean
-byMark (some b) = Corrected
+byMark (some b) = Corrected b
 
 -- FLAT-3: the n bytes from the address a on
 abbrev pub bytesFrom : (ℕ → ℕ) → ℕ → ℕ → List ℕ

@@ -2,15 +2,16 @@
 use mathlib.Core.Path.{_≡_, refl}
 use mathlib.Core.List.{List, [], _∷_, _++_, append-nil}
 use mathlib.Core.Option.{Option, none, some}
-use Prim.Native.Nat.{ℕ, _-_, _≤_}
+use Prim.Native.Nat.{ℕ, _-_, _*_, _≤_}
 use native.Mathlib.Omega.{arith}
-use lib.Dec.{ltb}
-use lib.ListN.{length, getD, length-take, length-append, length-replicate}
+use lib.ListN.{length, getD, take, drop, length-take, length-append, length-replicate}
 use Rattle.basics.proofs.RangeLaws.{byCases}
 use Rattle.refusals.specs.Paper.{Declined, Outcome, refused, given}
 use Rattle.refusals.proofs.ChainLaws.{else-left, else-right}
 use Rattle.register_calls.specs.Calls.{readAt, declined}
-use Rattle.calls.specs.Calls.{MemoryCall, read, write, flip, scrub, burstRead, burstWrite, readIn, crosses, room, nextDoubleword, parts, Call, memory, readRegister, writeRegister}
+use Rattle.calls.specs.declared.Kind.{Kind}
+use Rattle.calls.specs.declared.Kind.the-variants.{Clean, Corrected, Uncorrectable, Stored, NoBank, Flipped}
+use Rattle.calls.specs.Calls.{MemoryCall, read, write, flip, scrub, burstRead, burstWrite, readIn, writeIn, scrubIn, crosses, room, nextDoubleword, parts, Call, memory, readRegister, writeRegister}
 use Rattle.calls.specs.Spans.{byCall, byArguments, byCount, bySpans, missed}
 use Rattle.calls.specs.State.{State}
 use Rattle.calls.specs.Answers.{effectOf}
@@ -22,19 +23,46 @@ use Rattle.machine.specs.Cells.{onCell, readCell}
 use Rattle.machine.specs.Calls.{setup, spansOf, unlent, refusal, onTarget, accessAt, access, accesses, performed, memoryCall, called}
 use Rattle.parser.specs.Format.{parse}
 use Rattle.print.specs.Digits.{decimal, hexPairs}
-use Rattle.print.specs.Output.{refusedText, letterOf, malformedText, registerWriteText, registerReadText, answerText, callText}
+use Rattle.print.specs.Output.{refusedText, acceptedText, letterOf, malformedText, registerWriteText, registerReadText, bitText, kindText, kindsText, kindsAndBytesText, answerText, callText}
 use Rattle.print.specs.CodePrinted.{longestOutputLine}
-use Rattle.print.proofs.PrintLaws.{pairs-length}
+use Rattle.print.proofs.PrintLaws.{decimal-few, pairs-length}
 use Rattle.line.specs.Line.{callOf, orMalformed, lineOf}
 
 refused-few : (l n : ℕ) → length (refusedText l n) ≤ 5
-unfolding refusedText decimal
-refused-few l n = byCases (ltb n 10) (λ t. rw t (omega arith)) (λ t. rw t (omega arith))
+unfolding refusedText
+refused-few l n = omega (arith, length-append (decimal n) (0x0A ∷ []), decimal-few n)
 
 register-write-few : (d : Declined) → length (registerWriteText d) ≤ 5
 unfolding registerWriteText
 register-write-few none = omega arith
 register-write-few (some n) = refused-few 0x63 (getD n 0 0)
+
+kind-few : (k : Kind) → length (kindText k) ≤ 5
+unfolding bitText
+kind-few Clean = omega arith
+kind-few (Corrected b) = omega (arith, decimal-few b)
+kind-few Uncorrectable = omega arith
+kind-few Stored = omega arith
+kind-few NoBank = omega arith
+kind-few Flipped = omega arith
+
+kinds-few : (ks : List Kind) → length (kindsText ks) ≤ 5 * length ks
+kinds-few [] = omega arith
+kinds-few (k ∷ ks) = omega (arith, length-append (kindText k) (kindsText ks), kind-few k, kinds-few ks)
+
+-- the line of a read, and that of a write or a scrub
+read-line-few : (bs : List ℕ) (ks : List Kind) → length bs ≤ 8 → length ks ≤ 4 → length (acceptedText 0x72 (kindsAndBytesText bs ks)) ≤ longestOutputLine
+read-line-few bs ks h l =
+    omega (
+      arith,
+      length-append (kindsAndBytesText bs ks) (0x0A ∷ []),
+      length-append (kindsText ks) (0x2C ∷ hexPairs bs),
+      kinds-few ks,
+      pairs-length bs,
+    )
+
+kinds-line-few : (letter : ℕ) (ks : List Kind) → length ks ≤ 4 → length (acceptedText letter (kindsText ks)) ≤ longestOutputLine
+kinds-line-few letter ks l = omega (arith, length-append (kindsText ks) (0x0A ∷ []), kinds-few ks)
 
 register-read-few : (o : Outcome ℕ) → length (registerReadText o) ≤ 7
 unfolding registerReadText
@@ -66,20 +94,25 @@ module _ (cols : List ℕ) (st : State) where
       let few = count-few st a n e in
       byCases (crosses a n)
       (λ t.
-      let next = access cols st (readIn a (room a)) .1 in
-      let one = access cols st (readIn a (room a)) .0 .bytes in
-      let two = access cols next (readIn (nextDoubleword a) (n - room a)) .0 .bytes in
+      let first = access cols st (readIn a (room a)) in
+      let second = access cols (first .1) (readIn (nextDoubleword a) (n - room a)) .0 in
       let h = read-few cols st a (room a) in
-      let i = read-few cols next (nextDoubleword a) (n - room a) in
+      let i = read-few cols (first .1) (nextDoubleword a) (n - room a) in
       let more = split-rest a n t in
-      rw (t, append-nil two, length-append (hexPairs (one ++ two)) (0x0A ∷ [])) (omega (arith, pairs-length (one ++ two), length-append one two)))
+      rw (t, append-nil (second .bytes)) (read-line-few (first .0 .bytes ++ second .bytes) (first .0 .kind ∷ second .kind ∷ []) (omega (arith, length-append (first .0 .bytes) (second .bytes))) (omega arith)))
       (λ t.
-      let bytes = access cols st (readIn a n) .0 .bytes in
+      let only = access cols st (readIn a n) .0 in
       let h = read-few cols st a n in
-      rw (t, append-nil bytes, length-append (hexPairs bytes) (0x0A ∷ [])) (omega (arith, pairs-length bytes)))
-  call-few (write a bs) none e = byCases (crosses a (length bs)) (λ t. rw t (omega arith)) (λ t. rw t (omega arith))
+      rw (t, append-nil (only .bytes)) (read-line-few (only .bytes) (only .kind ∷ []) (omega arith) (omega arith)))
+  call-few (write a bs) none e =
+      byCases (crosses a (length bs))
+      (λ t.
+      let first = access cols st (writeIn a (take (room a) bs)) in
+      let second = access cols (first .1) (writeIn (nextDoubleword a) (drop (room a) bs)) .0 in
+      rw t (kinds-line-few 0x77 (first .0 .kind ∷ second .kind ∷ []) (omega arith)))
+      (λ t. rw t (kinds-line-few 0x77 (access cols st (writeIn a bs) .0 .kind ∷ []) (omega arith)))
   call-few (flip a b) none e = omega arith
-  call-few (scrub a) none e = omega arith
+  call-few (scrub a) none e = kinds-line-few 0x73 (access cols st (scrubIn a) .0 .kind ∷ []) (omega arith)
   call-few (burstRead a n) none e = omega arith
   call-few (burstWrite a bs) none e = omega arith
 

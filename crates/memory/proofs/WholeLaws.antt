@@ -1,13 +1,13 @@
 -- Accesses to all eight bytes of a doubleword.
 use Prim.Native.Nat.{ℕ, _+_, _-_, _/_, _%_, _≤_}
-use mathlib.Core.Path.{_≡_, sym, _∙_}
+use mathlib.Core.Path.{_≡_, sym, ap, _∙_}
 use mathlib.Core.Bool.{true, _&&_}
 use mathlib.Core.Option.{some}
-use mathlib.Core.List.{List, []}
+use mathlib.Core.List.{List, [], _∷_}
 use native.Mathlib.Omega.{arith}
 use borrow.Author.Tests.{eq-eqb, eqb-true, eqb-false, le-leb}
 use lib.Dec.{eqb}
-use lib.ListN.{length, take, drop}
+use lib.ListN.{length, getD, take, drop}
 use lib.Seq.{take-all}
 use Rattle.basics.proofs.Bools.{and-left, and-right}
 use Rattle.basics.proofs.RangeLaws.{byCases}
@@ -25,6 +25,7 @@ use Rattle.calls.specs.State.{State, state}
 use Rattle.machine.specs.Cells.{writeCell, onCell}
 use Rattle.machine.specs.Calls.{onTarget, accessAt}
 use Rattle.cache_line.specs.CodeLine.{cellInLine}
+use Rattle.memory.specs.CodeFetched.{syndromeAt, lineSyndromes}
 use Rattle.memory.proofs.FetchLaws.{clean-read}
 
 pub all-taken : (d a : ℕ) → a % 8 ≡ 0 → take 8 (drop (a % 8) (bytesOfNumber d)) ≡ bytesOfNumber d
@@ -39,24 +40,39 @@ module _ (cells : List ℕ) (k a d : ℕ) where
   unfolding onTarget onCell writeCell
   whole-write = rw (eq-eqb _ 8 (number-length d))
 
--- four clean cells are a clean line
-module _ (cols : List ℕ) (cells : List ℕ) (k : ℕ) (last : k % 4 ≡ 3) (s₀ s₁ s₂ s₃ : ℕ)
-    (e₀ : s₀ ≡ syndromeOf cols (cellAt cells (k - 3))) (e₁ : s₁ ≡ syndromeOf cols (cellAt cells (k - 2))) (e₂ : s₂ ≡ syndromeOf cols (cellAt cells (k - 1)))
-    (e₃ : s₃ ≡ syndromeOf cols (cellAt cells k)) where
-  pub clean-line : ((eqb s₀ 0 && eqb s₁ 0) && (eqb s₂ 0 && eqb s₃ 0)) ≡ true → (a : ℕ) → syndromeOf cols (cellAt cells (cellInLine a k)) ≡ 0
-  clean-line h a =
+-- ---- the cells of a line
+
+-- what holds of all four holds of each
+line-each : (P : ℕ → Type 0) (k : ℕ) → k % 4 ≡ 3 → P (k - 3) → P (k - 2) → P (k - 1) → P k → (a : ℕ) → P (cellInLine a k)
+line-each P k last p₀ p₁ p₂ p₃ a =
+    let m = a / 8 % 4 in
+    byCases (eqb m 0) (λ t. let i : cellInLine a k ≡ k - 3 = omega (arith, eqb-true m 0 t) in rw i p₀)
+    (λ t.
+    byCases (eqb m 1) (λ u. let i : cellInLine a k ≡ k - 2 = omega (arith, eqb-true m 1 u) in rw i p₁)
+    (λ u.
+    byCases (eqb m 2) (λ v. let i : cellInLine a k ≡ k - 1 = omega (arith, eqb-true m 2 v) in rw i p₂)
+    (λ v. let i : cellInLine a k ≡ k = omega (arith, eqb-false m 0 t, eqb-false m 1 u, eqb-false m 2 v) in rw i p₃)))
+
+module _ (cells : List ℕ) (k : ℕ) (last : k % 4 ≡ 3) where
+  pub line-syndrome : (a : ℕ) → getD (lineSyndromes cells k) (cellInLine a k % 4) 0 ≡ syndromeAt cells (cellInLine a k)
+  line-syndrome a =
+      line-each (λ j. getD (lineSyndromes cells k) (j % 4) 0 ≡ syndromeAt cells j) k last
+      (let i : (k - 3) % 4 ≡ 0 = omega arith in rw i)
+      (let i : (k - 2) % 4 ≡ 1 = omega arith in rw i)
+      (let i : (k - 1) % 4 ≡ 2 = omega arith in rw i)
+      (rw last) a
+
+  -- four clean cells are a clean line
+  pub clean-line : (s₀ s₁ s₂ s₃ : ℕ) → s₀ ∷ s₁ ∷ s₂ ∷ s₃ ∷ [] ≡ lineSyndromes cells k → ((eqb s₀ 0 && eqb s₁ 0) && (eqb s₂ 0 && eqb s₃ 0)) ≡ true
+      → (a : ℕ) → syndromeAt cells (cellInLine a k) ≡ 0
+  clean-line s₀ s₁ s₂ s₃ e h a =
       let low = and-left (eqb s₀ 0 && eqb s₁ 0) (eqb s₂ 0 && eqb s₃ 0) h in
       let high = and-right (eqb s₀ 0 && eqb s₁ 0) (eqb s₂ 0 && eqb s₃ 0) h in
-      let m = a / 8 % 4 in
-      byCases (eqb m 0) (λ t. at (k - 3) s₀ (omega (arith, eqb-true m 0 t)) e₀ (and-left (eqb s₀ 0) (eqb s₁ 0) low))
-      (λ t.
-      byCases (eqb m 1) (λ u. at (k - 2) s₁ (omega (arith, eqb-true m 1 u)) e₁ (and-right (eqb s₀ 0) (eqb s₁ 0) low))
-      (λ u.
-      byCases (eqb m 2) (λ v. at (k - 1) s₂ (omega (arith, eqb-true m 2 v)) e₂ (and-left (eqb s₂ 0) (eqb s₃ 0) high))
-      (λ v. at k s₃ (omega (arith, eqb-false m 0 t, eqb-false m 1 u, eqb-false m 2 v)) e₃ (and-right (eqb s₂ 0) (eqb s₃ 0) high))))
-    where
-      at : (j s : ℕ) → cellInLine a k ≡ j → s ≡ syndromeOf cols (cellAt cells j) → eqb s 0 ≡ true → syndromeOf cols (cellAt cells (cellInLine a k)) ≡ 0
-      at j s i e t = rw i (sym e ∙ eqb-true s 0 t)
+      line-each (λ j. syndromeAt cells j ≡ 0) k last
+      (sym (ap (λ (l : List ℕ). getD l 0 0) e) ∙ eqb-true s₀ 0 (and-left (eqb s₀ 0) (eqb s₁ 0) low))
+      (sym (ap (λ (l : List ℕ). getD l 1 0) e) ∙ eqb-true s₁ 0 (and-right (eqb s₀ 0) (eqb s₁ 0) low))
+      (sym (ap (λ (l : List ℕ). getD l 2 0) e) ∙ eqb-true s₂ 0 (and-left (eqb s₂ 0) (eqb s₃ 0) high))
+      (sym (ap (λ (l : List ℕ). getD l 3 0) e) ∙ eqb-true s₃ 0 (and-right (eqb s₂ 0) (eqb s₃ 0) high)) a
 
 -- eight bytes of a list as a number
 pub eight-taken : (bs : List ℕ) (i d : ℕ) → i + 8 ≤ length bs → bytesIn 8 d ≡ eightAt bs i → bytesOfNumber d ≡ take 8 (drop i bs)

@@ -1,8 +1,8 @@
 -- What the code reads of a whole doubleword. Only contracts of private functions use it.
-use Prim.Native.Nat.{ℕ}
+use Prim.Native.Nat.{ℕ, _-_}
 use mathlib.Core.Path.{_≡_}
 use mathlib.Core.Bool.{Bool, true, false}
-use mathlib.Core.List.{List}
+use mathlib.Core.List.{List, [], _∷_}
 use mathlib.Core.Option.{Option, none, some}
 use lib.ListN.{replicate}
 use Rattle.ecc.specs.Columns.{columns}
@@ -22,6 +22,14 @@ pub record CleanPair (cells : List ℕ) (k l : ℕ) : Type 0 where
   pub second-lent : isLent cells l ≡ true
   pub second-clean : syndromeOf columns (cellAt cells l) ≡ 0
 
+-- the syndrome of cell k
+abbrev pub syndromeAt : List ℕ → ℕ → ℕ
+syndromeAt cells k = syndromeOf columns (cellAt cells k)
+
+-- those of the cells of a cache line, by the last of them
+abbrev pub lineSyndromes : List ℕ → ℕ → List ℕ
+lineSyndromes cells k = syndromeAt cells (k - 3) ∷ syndromeAt cells (k - 2) ∷ syndromeAt cells (k - 1) ∷ syndromeAt cells k ∷ []
+
 -- the answer and the doubleword of a target: those of its cell; without a bank, "no bank" and eight bytes FF
 abbrev pub Fetches : Option ℕ → List ℕ → Fetched → Type 0
 Fetches none cells f = (f .kind ≡ NoBank) × (bytesOfNumber (f .doubleword) ≡ replicate 8 0xFF)
@@ -31,7 +39,7 @@ Fetches (some k) cells f =
 -- MEM-5, MEM-6, MEM-9: a short write to such a doubleword stores it again
 abbrev pub isRight : Kind → Bool
 isRight Clean = true
-isRight Corrected = true
+isRight (Corrected b) = true
 isRight Uncorrectable = false
 isRight Stored = false
 isRight NoBank = false

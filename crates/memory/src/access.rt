@@ -37,7 +37,7 @@ pub(crate) fn kind_of(reading: Reading) -> Kind
 {
     match reading {
         Reading::Clean => Kind::Clean,
-        Reading::Corrected(_) => Kind::Corrected,
+        Reading::Corrected(b) => Kind::Corrected(b),
         Reading::Uncorrectable => Kind::Uncorrectable,
     }
 }

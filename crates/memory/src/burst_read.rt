@@ -19,6 +19,7 @@ ghost use Rattle.calls.specs.State.{state};
 ghost use Rattle.calls.specs.Answers.{leaves, effectOf};
 ghost use Rattle.machine.specs.Calls.{accessAt, performed, burstReadCall};
 ghost use Rattle.cache_line.specs.CodeLine.{lastDoubleword, cellInLine};
+ghost use Rattle.memory.specs.CodeFetched.{lineSyndromes};
 use crate::access;
 use crate::access::LENT;
 use crate::access::NO_COLUMNS;
@@ -40,26 +41,20 @@ use targets::Judged;
 use targets::judge;
 
 // Beat i of a burst read at `address`; `last` is the last cell of the line.
-fn read_beat(registers: &mut [u8; 256], cells: &[u8], last: usize, address: u32, i: u32) -> Fetched
-    requires { ⌜ (isLent (now cells) last ≡ true) × (last % 4 ≡ 3) × (address % 8 ≡ 0) ⌝ }
+fn read_beat(
+    registers: &mut [u8; 256],
+    cells: &[u8],
+    last: usize,
+    syndromes: [u8; 4],
+    address: u32,
+    i: u32,
+) -> Fetched
+    requires { ⌜ (isLent (now cells) last ≡ true) × (last % 4 ≡ 3) × (syndromes ≡ lineSyndromes (now cells) last) × (address % 8 ≡ 0) ⌝ }
     ensures { λ x. ⌜ (got (x .kind) (bytesOfNumber (x .doubleword)), state (recordOf (now (registers .exit))) (now (cells .entry))) ≡ accessAt columns (some (cellInLine (beatAddress address i) last)) (state (recordOf (now (registers .entry))) (now (cells .entry))) (readIn (beatAddress address i) 8) ⌝ }
 {
     let a = beat_address(address, i);
     let k = cell_in_line(last, a);
-    let s = access::syndrome_at(LENT, &NO_COLUMNS, cells, k);
-    fetch(registers, cells, k, s, a)
-}
-
-// The cells of the line whose last cell this is are all clean. There are no branches, so that four syndromes are computed at once.
-fn is_clean(cells: &[u8], last: usize) -> bool
-    requires { ⌜ (isLent (now cells) last ≡ true) × (last % 4 ≡ 3) ⌝ }
-    ensures { λ t. ⌜ (t ≡ true → (a : ℕ) → syndromeOf columns (cellAt (now (cells .entry)) (cellInLine a last)) ≡ 0) ⌝ }
-{
-    let first = access::syndrome_at(LENT, &NO_COLUMNS, cells, last - 3);
-    let second = access::syndrome_at(LENT, &NO_COLUMNS, cells, last - 2);
-    let third = access::syndrome_at(LENT, &NO_COLUMNS, cells, last - 1);
-    let fourth = access::syndrome_at(LENT, &NO_COLUMNS, cells, last);
-    (first == 0) & (second == 0) & ((third == 0) & (fourth == 0))
+    fetch(registers, cells, k, syndromes[k % 4], a)
 }
 
 // The doubleword of beat i as it is stored.
@@ -83,21 +78,22 @@ fn copy_beats(cells: &[u8], last: usize, address: u32, buffer: &mut [u8]) -> Ans
     answer(Kind::Clean, Kind::Clean, Kind::Clean, Kind::Clean)
 }
 
-// A burst read, beat by beat.
+// A burst read, beat by beat; the syndromes are those of the cells of the line, in their order.
 fn read_each_beat(
     registers: &mut [u8; 256],
     cells: &[u8],
     last: usize,
+    syndromes: [u8; 4],
     address: u32,
     buffer: &mut [u8],
 ) -> Answer
-    requires { ⌜ (isLent (now cells) last ≡ true) × (cellOf (setupOf (recordOf (now registers))) (lastDoubleword address) ≡ some last) × (address % 8 ≡ 0) × (length (now buffer) ≡ 32) ⌝ }
+    requires { ⌜ (isLent (now cells) last ≡ true) × (cellOf (setupOf (recordOf (now registers))) (lastDoubleword address) ≡ some last) × (syndromes ≡ lineSyndromes (now cells) last) × (address % 8 ≡ 0) × (length (now buffer) ≡ 32) ⌝ }
     ensures { λ x. ⌜ leaves x (state (recordOf (now (registers .exit))) (now (cells .entry))) (now (buffer .exit)) ≡ effectOf (performed columns none (state (recordOf (now (registers .entry))) (now (cells .entry))) (parts (burstRead address 32))) [] ⌝ }
 {
-    let a = read_beat(registers, cells, last, address, 0);
-    let b = read_beat(registers, cells, last, address, 1);
-    let c = read_beat(registers, cells, last, address, 2);
-    let d = read_beat(registers, cells, last, address, 3);
+    let a = read_beat(registers, cells, last, syndromes, address, 0);
+    let b = read_beat(registers, cells, last, syndromes, address, 1);
+    let c = read_beat(registers, cells, last, syndromes, address, 2);
+    let d = read_beat(registers, cells, last, syndromes, address, 3);
     copy_line(
         a.doubleword,
         b.doubleword,
@@ -112,7 +108,8 @@ fn read_each_beat(
     answer(first, second, third, fourth)
 }
 
-// A burst read. Most lines are clean: such a line is copied without a reading of each cell.
+// A burst read. Most lines are clean: such a line is copied without a reading of each cell. The four syndromes are computed at once, without a
+// branch between them.
 fn read_beats(
     registers: &mut [u8; 256],
     cells: &[u8],
@@ -123,10 +120,15 @@ fn read_beats(
     requires { ⌜ (isLent (now cells) last ≡ true) × (cellOf (setupOf (recordOf (now registers))) (lastDoubleword address) ≡ some last) × (address % 8 ≡ 0) × (length (now buffer) ≡ 32) ⌝ }
     ensures { λ x. ⌜ leaves x (state (recordOf (now (registers .exit))) (now (cells .entry))) (now (buffer .exit)) ≡ effectOf (performed columns none (state (recordOf (now (registers .entry))) (now (cells .entry))) (parts (burstRead address 32))) [] ⌝ }
 {
-    if is_clean(cells, last) {
+    let first = access::syndrome_at(LENT, &NO_COLUMNS, cells, last - 3);
+    let second = access::syndrome_at(LENT, &NO_COLUMNS, cells, last - 2);
+    let third = access::syndrome_at(LENT, &NO_COLUMNS, cells, last - 1);
+    let fourth = access::syndrome_at(LENT, &NO_COLUMNS, cells, last);
+    if (first == 0) & (second == 0) & ((third == 0) & (fourth == 0)) {
         return copy_beats(cells, last, address, buffer);
     }
-    read_each_beat(registers, cells, last, address, buffer)
+    let syndromes = [first, second, third, fourth];
+    read_each_beat(registers, cells, last, syndromes, address, buffer)
 }
 
 pub fn burst_read_in_place(

@@ -95,7 +95,7 @@ pub(crate) fn is_right(kind: Kind) -> bool
 {
     match kind {
         Kind::Clean => true,
-        Kind::Corrected => true,
+        Kind::Corrected(_) => true,
         Kind::Uncorrectable => false,
         Kind::Stored => false,
         Kind::NoBank => false,

@@ -1,7 +1,7 @@
 -- Laws of printed bytes.
 use mathlib.Core.Path.{_≡_, refl, sym, ap, ap₂, _∙_}
 use mathlib.Core.Bool.{cond}
-use mathlib.Core.List.{List, [], _∷_, _++_}
+use mathlib.Core.List.{List, [], _∷_, _++_, append-assoc, append-nil}
 use Prim.Native.Nat.{ℕ, suc, _+_, _*_, _/_, _%_, _<_, _≤_}
 use native.Mathlib.Omega.{arith}
 use native.Mathlib.Nat.{zero-add}
@@ -15,12 +15,13 @@ use Rattle.refusals.specs.declared.Refusal.the-variants.{MalformedLine}
 use Rattle.refusals.specs.declared.Verdict.{Verdict}
 use Rattle.refusals.specs.declared.Verdict.the-variants.{Accepted, Refused}
 use Rattle.refusals.specs.Paper.{Declined, paperVerdict}
+use Rattle.calls.specs.declared.Kind.{Kind}
 use Rattle.calls.specs.declared.Part.{Part}
 use Rattle.calls.specs.declared.Answer.{Answer}
 use Rattle.calls.specs.Calls.{read, write, flip, scrub}
 use Rattle.calls.specs.Answers.{kindsIn, unlessRefused, paperAnswer}
 use Rattle.print.specs.Digits.{hexCharacter, hexPairs, decimal}
-use Rattle.print.specs.Output.{refusedText, verdictText, malformedText, registerWriteText, outcomeText, kindLetter, kindsText, callText, answerText}
+use Rattle.print.specs.Output.{verdictText, malformedText, registerWriteText, outcomeText, kindLetter, bitText, kindText, kindsText, callText, answerText}
 use Rattle.print.specs.CodePrinted.{longestOutputLine, atStart, printInto, kindsLine, readLine}
 
 -- ---- the lesser of two numbers
@@ -61,22 +62,52 @@ pairs-next bytes i x y h e f =
     let s : i + 1 ≡ suc i = omega arith in
     rw (s, take-suc bytes i 0 h, e, f) (pairs-append (take i bytes) (getD bytes i 0 ∷ []))
 
+-- ---- the answers of accesses
+
 abbrev pub partsText : List Part → List ℕ
 partsText ps = kindsText (kindsIn ps)
 
 parts-append : (ps qs : List Part) → partsText (ps ++ qs) ≡ partsText ps ++ partsText qs
 parts-append [] qs = refl
-parts-append (p ∷ ps) qs = ap (λ (l : List ℕ). 0x2C ∷ kindLetter (p .kind) ∷ l) (parts-append ps qs)
+parts-append (p ∷ ps) qs = ap (kindText (p .kind) ++_) (parts-append ps qs) ∙ sym (append-assoc (kindText (p .kind)) (partsText ps) (partsText qs))
 
-pub parts-next : (ps : List Part) (i x : ℕ) (d : Part) → i < length ps → x ≡ kindLetter (getD ps i d .kind)
-    → partsText (take (i + 1) ps) ≡ partsText (take i ps) ++ 0x2C ∷ x ∷ []
-parts-next ps i x d h e =
+parts-next : (ps : List Part) (i : ℕ) (d : Part) → i < length ps → partsText (take (i + 1) ps) ≡ partsText (take i ps) ++ kindText (getD ps i d .kind)
+parts-next ps i d h =
     let s : i + 1 ≡ suc i = omega arith in
-    rw (s, take-suc ps i d h, e) (parts-append (take i ps) (getD ps i d ∷ []))
+    rw (s, take-suc ps i d h) (parts-append (take i ps) (getD ps i d ∷ []) ∙ ap (partsText (take i ps) ++_) (append-nil (kindText (getD ps i d .kind))))
 
-pub parts-length : (ps : List Part) → length (partsText ps) ≡ 2 * length ps
-parts-length [] = refl
-parts-length (p ∷ ps) = let e = parts-length ps in omega arith
+-- out₀ with the text of the first i parts put into it from an index on, and the index behind that text
+pub record Written (out₀ out : List ℕ) (from at : ℕ) (ps : List Part) (i : ℕ) : Type 0 where
+  pub end : at ≡ from + length (partsText (take i ps))
+  pub bytes : out ≡ sets out₀ from (partsText (take i ps))
+
+-- one part more
+pub part-written : (out₀ out out′ : List ℕ) (from at at′ : ℕ) (ps : List Part) (i : ℕ) (d : Part) → i < length ps → Written out₀ out from at ps i → (letter : ℕ)
+    → letter ≡ kindLetter (getD ps i d .kind) → at′ ≡ at + 2 + length (bitText (getD ps i d .kind))
+    → out′ ≡ sets (set (set out at 0x2C) (at + 1) letter) (at + 2) (bitText (getD ps i d .kind)) → Written out₀ out′ from at′ ps (i + 1)
+part-written out₀ out out′ from at at′ ps i d h w letter l e f =
+    let text = partsText (take i ps) in
+    let k = getD ps i d .kind in
+    let one : at + 1 ≡ suc at = omega arith in
+    let two : at + 2 ≡ suc (suc at) = omega arith in
+    record {
+      end = rw (parts-next ps i d h) (omega (arith, w .end, e, length-append text (kindText k)));
+      bytes = rw (parts-next ps i d h, f, one, two, l, w .bytes, w .end) (sets-append out₀ text (kindText k) from);
+    }
+
+-- ---- numbers in decimal
+
+pub decimal-one : (n : ℕ) → n < 10 → decimal n ≡ (0x30 + n) ∷ []
+unfolding decimal
+decimal-one n h = rw (lt-ltb n 10 h)
+
+pub decimal-two : (n : ℕ) → 10 ≤ n → decimal n ≡ (0x30 + n / 10) ∷ (0x30 + n % 10) ∷ []
+unfolding decimal
+decimal-two n h = rw (le-ltb n 10 h)
+
+pub decimal-few : (n : ℕ) → length (decimal n) ≤ 2
+unfolding decimal
+decimal-few n = byCases (ltb n 10) (λ t. rw t (omega arith)) (λ t. rw t (omega arith))
 
 -- ---- a text at the start of the output
 
@@ -95,15 +126,6 @@ pub line-sets : (out out′ text more : List ℕ) (n m : ℕ) → n ≡ length t
 line-sets out out′ text more n m h k e room =
     let l : m ≡ length (text ++ more) = simp length-append (omega arith) in
     ap₂ (λ (i : ℕ) (x : List ℕ). (i, x)) l (sets-more out out′ text more n h e) ∙ start-sets (text ++ more) out (omega arith)
-
--- a refusal's number in one digit, and in two
-pub refused-one : (l n : ℕ) → n < 10 → l ∷ 0x2C ∷ (0x30 + n) ∷ 0x0A ∷ [] ≡ refusedText l n
-unfolding refusedText decimal
-refused-one l n h = rw (lt-ltb n 10 h)
-
-pub refused-two : (l n : ℕ) → 10 ≤ n → l ∷ 0x2C ∷ (0x30 + n / 10) ∷ (0x30 + n % 10) ∷ 0x0A ∷ [] ≡ refusedText l n
-unfolding refusedText decimal
-refused-two l n h = rw (le-ltb n 10 h)
 
 pub print-none : (text out : List ℕ) → length out < longestOutputLine → (0, out) ≡ printInto text out
 unfolding printInto

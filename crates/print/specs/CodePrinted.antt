@@ -8,9 +8,9 @@ use Rattle.calls.specs.declared.Answer.{Answer}
 use Rattle.calls.specs.Answers.{paperAnswer}
 use Rattle.print.specs.Output.{outcomeText, kindsText, kindsAndBytesText}
 
--- the most bytes that an output line can have, with its LF: an answer has up to four parts, and a read up to eight bytes
+-- the most bytes that an output line can have, with its LF: an answer has up to four parts of five bytes, and a read up to eight bytes
 abbrev pub longestOutputLine : ℕ
-longestOutputLine = 29
+longestOutputLine = 41
 
 -- the length of a text, and the output with the text at its start; the bytes behind the text stay as they were
 abbrev pub atStart : List ℕ → List ℕ → ℕ × List ℕ

@@ -42,7 +42,7 @@ registerReadText o = outcomeText 0x67 (λ v. 0x2C ∷ hexPair v) o
 -- LINE-14: the letter of an answer. That of a flip is never printed (LINE-13)
 unfoldable pub kindLetter : Kind → ℕ
 kindLetter Clean = 0x6E
-kindLetter Corrected = 0x63
+kindLetter (Corrected b) = 0x63
 kindLetter Uncorrectable = 0x75
 kindLetter Stored = 0x70
 kindLetter NoBank = 0x65
@@ -57,10 +57,23 @@ letterOf (scrub a) = 0x73
 letterOf (burstRead a n) = 0x72
 letterOf (burstWrite a bs) = 0x77
 
+-- LINE-14, MEM-19: the field behind that letter: the flip bit of "corrected", in decimal
+unfoldable pub bitText : Kind → List ℕ
+bitText Clean = []
+bitText (Corrected b) = 0x2C ∷ decimal b
+bitText Uncorrectable = []
+bitText Stored = []
+bitText NoBank = []
+bitText Flipped = []
+
+-- LINE-14: the answer of one access
+abbrev pub kindText : Kind → List ℕ
+kindText k = 0x2C ∷ kindLetter k ∷ bitText k
+
 -- LINE-14: the answer of each access of a call, in order
 abbrev pub kindsText : List Kind → List ℕ
 kindsText [] = []
-kindsText (k ∷ ks) = 0x2C ∷ kindLetter k ∷ kindsText ks
+kindsText (k ∷ ks) = kindText k ++ kindsText ks
 
 -- LINE-14: the same, and the bytes of a read
 abbrev pub kindsAndBytesText : List ℕ → List Kind → List ℕ

@@ -14,8 +14,8 @@ use calls::Answer;
 use refusals::Verdict;
 use register_calls::RegisterRead;
 
-// The most bytes that an output line can have, with its LF: an answer has up to four parts, and a read up to eight bytes.
-pub const LONGEST_OUTPUT_LINE: usize = 29;
+// The most bytes that an output line can have, with its LF: an answer has up to four parts of five bytes, and a read up to eight bytes.
+pub const LONGEST_OUTPUT_LINE: usize = 41;
 
 // The line, by its letter, of what prints nothing more if it was accepted: a register write and a flip, which print no answer (LINE-13), and a
 // malformed line.

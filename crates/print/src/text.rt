@@ -7,8 +7,8 @@ ghost use lib.Dec.{ltb};
 ghost use lib.ListN.{length, take};
 ghost use lib.Seq.{sets};
 ghost use Rattle.calls.specs.Answers.{kindsIn};
-ghost use Rattle.print.specs.Digits.{hexPair, hexPairs};
-ghost use Rattle.print.specs.Output.{refusedText, acceptedText, kindLetter, kindsText, kindsAndBytesText};
+ghost use Rattle.print.specs.Digits.{hexPair, hexPairs, decimal};
+ghost use Rattle.print.specs.Output.{refusedText, acceptedText, kindLetter, bitText, kindsText, kindsAndBytesText};
 ghost use Rattle.print.specs.CodePrinted.{longestOutputLine, atStart};
 use crate::digits::high_digit;
 use crate::digits::low_digit;
@@ -21,21 +21,29 @@ pub(crate) fn least(a: usize, b: usize) -> usize
     if a < b { a } else { b }
 }
 
+// Writes a number below 100 in decimal from an index on, and returns the index behind it. Of a larger one it writes the two bytes that `decimal` has.
+fn write_decimal(n: u8, out: &mut [u8], at: usize) -> usize
+    requires { ⌜ at + 2 ≤ length (now out) ⌝ }
+    ensures { λ end. ⌜ (end ≡ at + length (decimal n)) × (now (out .exit) ≡ sets (now (out .entry)) at (decimal n)) × (end ≤ at + 2) ⌝ }
+{
+    if n < 10 {
+        out[at] = 0x30 + n;
+        return at + 1;
+    }
+    out[at] = 0x30 + n / 10;
+    out[at + 1] = 0x30 + n % 10;
+    at + 2
+}
+
 pub(crate) fn refused(letter: u8, number: u8, out: &mut [u8]) -> usize
     requires { ⌜ longestOutputLine ≤ length (now out) ⌝ }
     ensures { λ n. ⌜ (n, now (out .exit)) ≡ atStart (refusedText letter number) (now (out .entry)) ⌝ }
 {
     out[0] = letter;
     out[1] = 0x2c;
-    if number < 10 {
-        out[2] = 0x30 + number;
-        out[3] = 0x0a;
-        return 4;
-    }
-    out[2] = 0x30 + number / 10;
-    out[3] = 0x30 + number % 10;
-    out[4] = 0x0a;
-    5
+    let end = write_decimal(number, out, 2);
+    out[end] = 0x0a;
+    end + 1
 }
 
 // Accepted, and nothing follows.
@@ -70,7 +78,7 @@ fn kind_letter(kind: Kind) -> u8
 {
     match kind {
         Kind::Clean => 0x6e,
-        Kind::Corrected => 0x63,
+        Kind::Corrected(_) => 0x63,
         Kind::Uncorrectable => 0x75,
         Kind::Stored => 0x70,
         Kind::NoBank => 0x65,
@@ -78,22 +86,41 @@ fn kind_letter(kind: Kind) -> u8
     }
 }
 
+// Writes the flip bit of "corrected" from an index on, with a comma before it, and returns the index behind it.
+fn write_bit(kind: Kind, out: &mut [u8], at: usize) -> usize
+    requires { ⌜ at + 3 ≤ length (now out) ⌝ }
+    ensures { λ end. ⌜ (end ≡ at + length (bitText kind)) × (now (out .exit) ≡ sets (now (out .entry)) at (bitText kind)) × (end ≤ at + 3) ⌝ }
+{
+    match kind {
+        Kind::Clean => at,
+        Kind::Corrected(b) => {
+            out[at] = 0x2c;
+            write_decimal(b, out, at + 1)
+        }
+        Kind::Uncorrectable => at,
+        Kind::Stored => at,
+        Kind::NoBank => at,
+        Kind::Flipped => at,
+    }
+}
+
 // Writes the kinds of the first `count` parts from index 3 on, and returns the index behind them.
 fn write_kinds(parts: [Part; 4], count: usize, out: &mut [u8]) -> usize
     requires { ⌜ longestOutputLine ≤ length (now out) ⌝ }
-    ensures { λ n. ⌜ (n ≡ 3 + length (kindsText (kindsIn (take count parts)))) × (now (out .exit) ≡ sets (now (out .entry)) 3 (kindsText (kindsIn (take count parts)))) × (n ≤ 11) ⌝ }
+    ensures { λ n. ⌜ (n ≡ 3 + length (kindsText (kindsIn (take count parts)))) × (now (out .exit) ≡ sets (now (out .entry)) 3 (kindsText (kindsIn (take count parts)))) × (n ≤ 23) ⌝ }
 {
     let n = least(count, 4);
+    let mut at: usize = 3;
     let mut i: usize = 0;
     while i < n {
-        let at = 3 + 2 * i;
         let part = parts[i];
         let kind = part.kind;
         out[at] = 0x2c;
         out[at + 1] = kind_letter(kind);
+        at = write_bit(kind, out, at + 2);
         i += 1;
     }
-    3 + 2 * n
+    at
 }
 
 // Writes two digits for each byte, from an index on.

@@ -2,26 +2,47 @@
 use Prim.Native.Nat.{ℕ, zero, suc, _<_, _≤_}
 use native.Mathlib.Omega.{arith}
 use native.Mathlib.Nat.{not-suc-le-zero}
-use mathlib.Core.Path.{_≡_, refl, ap, sym, _∙_}
+use mathlib.Core.Path.{_≡_, refl, sym, _∙_}
+use mathlib.Core.Bool.{true, false, _&&_}
 use mathlib.Core.List.{List, [], _∷_}
-use lib.ListN.{length, getD, take}
+use lib.Dec.{ltb}
+use lib.ListN.{length, getD, take, set}
 use lib.Seq.{take-all, length-take-le}
+use borrow.Author.Tests.{ltb-true, ltb-false}
+use Rattle.basics.proofs.Bools.{and-left, and-right, and-not}
+use Rattle.basics.proofs.RangeLaws.{byCases}
+use Rattle.calls.specs.declared.Kind.{Kind}
 use Rattle.calls.specs.declared.Part.{Part}
 use Rattle.calls.specs.Answers.{kindsIn}
-use Rattle.results.specs.Results.{kindCode, partAt, answerNumbers}
+use Rattle.results.specs.Results.{partCode, partAt, answerNumbers}
 
-pub part-within : (ps : List Part) (n i x : ℕ) (d : Part) → i < n → i < length ps → x ≡ kindCode (getD ps i d .kind) → x ≡ partAt (kindsIn (take n ps)) i
-part-within [] n i x d h k e = absurd (not-suc-le-zero k)
-part-within (p ∷ ps) zero i x d h k e = absurd (not-suc-le-zero h)
-part-within (p ∷ ps) (suc n) zero x d h k e = e
-part-within (p ∷ ps) (suc n) (suc i) x d h k e = part-within ps n i x d (omega arith) (omega arith) e
+pub part-is : (ps : List Part) (i x : ℕ) (d : Part) → i < length ps → x ≡ partCode (getD ps i d .kind) → x ≡ partAt (kindsIn ps) i
+part-is [] i x d h e = absurd (not-suc-le-zero h)
+part-is (p ∷ ps) zero x d h e = e
+part-is (p ∷ ps) (suc i) x d h e = part-is ps i x d (omega arith) e
 
-pub part-past : (ps : List Part) (n i : ℕ) → n ≤ i → 0 ≡ partAt (kindsIn (take n ps)) i
-part-past [] zero i h = refl
-part-past (p ∷ ps) zero i h = refl
-part-past [] (suc n) i h = refl
-part-past (p ∷ ps) (suc n) zero h = absurd (not-suc-le-zero h)
-part-past (p ∷ ps) (suc n) (suc i) h = part-past ps n i (omega arith)
+pub one-part : (ps : List Part) → 1 ≤ length ps → 1 ∷ partAt (kindsIn ps) 0 ∷ 0 ∷ 0 ∷ 0 ∷ [] ≡ answerNumbers (kindsIn (take 1 ps))
+one-part [] h = absurd (not-suc-le-zero h)
+one-part (p ∷ ps) h = refl
+
+-- ---- the parts put one after the other
+
+-- the numbers of the parts, and n in front of them
+abbrev pub numbersAfter : ℕ → List Kind → List ℕ
+numbersAfter n ks = n ∷ partAt ks 0 ∷ partAt ks 1 ∷ partAt ks 2 ∷ partAt ks 3 ∷ []
+
+pub next-part : (ps : List Part) (n i : ℕ) → length ps ≡ 4 → i < 4
+    → set (numbersAfter n (kindsIn (take i ps))) (suc i) (partAt (kindsIn ps) i) ≡ numbersAfter n (kindsIn (take (suc i) ps))
+next-part (p ∷ q ∷ r ∷ s ∷ []) n zero h k = refl
+next-part (p ∷ q ∷ r ∷ s ∷ []) n (suc zero) h k = refl
+next-part (p ∷ q ∷ r ∷ s ∷ []) n (suc (suc zero)) h k = refl
+next-part (p ∷ q ∷ r ∷ s ∷ []) n (suc (suc (suc zero))) h k = refl
+next-part (p ∷ q ∷ r ∷ s ∷ []) n (suc (suc (suc (suc i)))) h k = absurd (omega arith)
+next-part [] n i h k = absurd (omega arith)
+next-part (p ∷ []) n i h k = absurd (omega arith)
+next-part (p ∷ q ∷ []) n i h k = absurd (omega arith)
+next-part (p ∷ q ∷ r ∷ []) n i h k = absurd (omega arith)
+next-part (p ∷ q ∷ r ∷ s ∷ t ∷ ps) n i h k = absurd (omega arith)
 
 kinds-length : (ps : List Part) → length (kindsIn ps) ≡ length ps
 kinds-length [] = refl
@@ -30,17 +51,12 @@ kinds-length (p ∷ ps) = let e = kinds-length ps in omega arith
 pub few : (ps : List Part) (n : ℕ) → n ≤ length ps → n ≡ length (kindsIn (take n ps))
 few ps n h = sym (kinds-length (take n ps) ∙ length-take-le n ps h)
 
-pub many : (ps : List Part) (n : ℕ) → length ps ≤ n → length ps ≡ length (kindsIn (take n ps))
-many ps n h = sym (kinds-length (take n ps) ∙ ap length (take-all n ps h))
+-- ---- how many parts there are: as many as the answer says, and four at most
 
--- ---- the numbers of a few parts
+pub is-next : (i m n : ℕ) → (ltb i m && ltb i n) ≡ true → (i < m) × (i < n)
+is-next i m n e = (ltb-true i m (and-left (ltb i m) (ltb i n) e), ltb-true i n (and-right (ltb i m) (ltb i n) e))
 
-pub one-part : (ps : List Part) → 1 ≤ length ps → answerNumbers (kindsIn (take 1 ps)) ≡ 1 ∷ partAt (kindsIn (take 1 ps)) 0 ∷ 0 ∷ 0 ∷ 0 ∷ []
-one-part [] h = absurd (not-suc-le-zero h)
-one-part (p ∷ ps) h = refl
-
-pub two-parts : (ps : List Part) → 2 ≤ length ps
-    → answerNumbers (kindsIn (take 2 ps)) ≡ 2 ∷ partAt (kindsIn (take 2 ps)) 0 ∷ partAt (kindsIn (take 2 ps)) 1 ∷ 0 ∷ 0 ∷ []
-two-parts [] h = absurd (not-suc-le-zero h)
-two-parts (p ∷ []) h = absurd (omega arith)
-two-parts (p ∷ q ∷ ps) h = refl
+pub none-next : (ps : List Part) (i n : ℕ) → length ps ≡ 4 → i ≤ n → (ltb i 4 && ltb i n) ≡ false → take i ps ≡ take n ps
+none-next ps i n four h e =
+    byCases (ltb i 4) (λ t. let k = ltb-false i n (and-not (ltb i 4) (ltb i n) e t) in let same : i ≡ n = omega arith in rw same)
+    (λ t. let k = ltb-false i 4 t in take-all i ps (omega arith) ∙ sym (take-all n ps (omega arith)))

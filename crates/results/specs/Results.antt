@@ -33,16 +33,29 @@ returned numbers o before = (resultOf o, numbersAfter numbers o before)
 -- the number of a kind. That of a flip is never given out
 abbrev pub kindCode : Kind → ℕ
 kindCode Clean = 1
-kindCode Corrected = 2
+kindCode (Corrected b) = 2
 kindCode Uncorrectable = 3
 kindCode Stored = 4
 kindCode NoBank = 5
 kindCode Flipped = 6
 
+-- MEM-19: the flip bit of "corrected"; the other kinds have 0 in its place
+abbrev pub bitOf : Kind → ℕ
+bitOf Clean = 0
+bitOf (Corrected b) = b
+bitOf Uncorrectable = 0
+bitOf Stored = 0
+bitOf NoBank = 0
+bitOf Flipped = 0
+
+-- the number of a part: its kind is in the low byte, the flip bit in the next
+abbrev pub partCode : Kind → ℕ
+partCode k = kindCode k + 256 * bitOf k
+
 -- the number of the part at a place of an answer, and 0 behind the last part
 abbrev pub partAt : List Kind → ℕ → ℕ
 partAt [] i = 0
-partAt (k ∷ ks) zero = kindCode k
+partAt (k ∷ ks) zero = partCode k
 partAt (k ∷ ks) (suc i) = partAt ks i
 
 -- LIST-9: by a memory call: how many parts its answer has, and four numbers for its parts

@@ -4,7 +4,7 @@ ghost use Prim.Native.Nat.{_<_};
 ghost use lib.ListN.{getD, take};
 ghost use Rattle.refusals.specs.Paper.{paper, paperVerdict};
 ghost use Rattle.calls.specs.Answers.{kindsIn, paperAnswer};
-ghost use Rattle.results.specs.Results.{refusalCode, resultOfVerdict, returned, kindCode, partAt, answerNumbers};
+ghost use Rattle.results.specs.Results.{refusalCode, resultOfVerdict, returned, kindCode, bitOf, partCode, partAt, answerNumbers};
 use calls::Answer;
 use calls::Kind;
 use calls::Part;
@@ -38,12 +38,12 @@ pub fn of_verdict(v: Verdict) -> u32
     }
 }
 
-fn code(k: Kind) -> u32
+fn number(k: Kind) -> u8
     ensures { λ n. ⌜ n ≡ kindCode k ⌝ }
 {
     match k {
         Kind::Clean => 1,
-        Kind::Corrected => 2,
+        Kind::Corrected(_) => 2,
         Kind::Uncorrectable => 3,
         Kind::Stored => 4,
         Kind::NoBank => 5,
@@ -51,40 +51,54 @@ fn code(k: Kind) -> u32
     }
 }
 
-fn part_at(count: usize, parts: [Part; 4], i: usize) -> u32
-    requires { ⌜ i < 4 ⌝ }
-    ensures { λ n. ⌜ n ≡ partAt (kindsIn (take count parts)) i ⌝ }
+// The flip bit of "corrected", or 0 for any other kind.
+fn flip_bit(k: Kind) -> u8
+    ensures { λ b. ⌜ b ≡ bitOf k ⌝ }
 {
-    if i < count {
-        let part = parts[i];
-        let kind = part.kind;
-        code(kind)
-    } else {
-        0
+    match k {
+        Kind::Clean => 0,
+        Kind::Corrected(b) => b,
+        Kind::Uncorrectable => 0,
+        Kind::Stored => 0,
+        Kind::NoBank => 0,
+        Kind::Flipped => 0,
     }
 }
 
-// Most answers have one part or two: where the compiler knows how many, it stores their numbers without a look at the other parts.
-fn numbers_of(count: usize, parts: [Part; 4]) -> [u32; 5]
-    ensures { λ xs. ⌜ xs ≡ answerNumbers (kindsIn (take count parts)) ⌝ }
+// Most parts are clean: where the compiler knows it, it stores their number without a look at the bit.
+fn part(k: Kind) -> u32
+    ensures { λ n. ⌜ n ≡ partCode k ⌝ }
+{
+    match k {
+        Kind::Clean => 1,
+        _ => number(k) as u32 + 256 * (flip_bit(k) as u32),
+    }
+}
+
+fn part_at(parts: [Part; 4], i: usize) -> u32
+    requires { ⌜ i < 4 ⌝ }
+    ensures { λ n. ⌜ n ≡ partAt (kindsIn parts) i ⌝ }
+{
+    let x = parts[i];
+    let k = x.kind;
+    part(k)
+}
+
+// Most answers have one part: where the compiler knows that, it stores the number of it without a look at the others.
+fn put_parts(count: usize, parts: [Part; 4], answer: &mut [u32; 5])
+    ensures { λ _. ⌜ now (answer .exit) ≡ answerNumbers (kindsIn (take count parts)) ⌝ }
 {
     if count == 1 {
-        return [1, part_at(1, parts, 0), 0, 0, 0];
+        *answer = [1, part_at(parts, 0), 0, 0, 0];
+        return;
     }
-    if count == 2 {
-        return [2, part_at(2, parts, 0), part_at(2, parts, 1), 0, 0];
+    *answer = [0u32; 5];
+    let mut i: usize = 0;
+    while (i < 4) & (i < count) {
+        answer[i + 1] = part_at(parts, i);
+        i += 1;
     }
-    let mut n: u32 = 4;
-    if count < 4 {
-        n = count as u32;
-    }
-    [
-        n,
-        part_at(count, parts, 0),
-        part_at(count, parts, 1),
-        part_at(count, parts, 2),
-        part_at(count, parts, 3),
-    ]
+    answer[0] = i as u32;
 }
 
 // What a read, write, scrub or burst returns; the parts of an accepted call go to the lent numbers.
@@ -95,7 +109,7 @@ pub fn give_answer(x: Answer, answer: &mut [u32; 5]) -> u32
     match verdict {
         Verdict::Accepted => {
             let parts = x.parts;
-            *answer = numbers_of(x.count, parts);
+            put_parts(x.count, parts, answer);
             0
         }
         Verdict::Refused(r) => of_refusal(r),

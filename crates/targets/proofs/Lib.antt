@@ -1,3 +1,4 @@
 pub mod LentLaws
+pub mod BoundLaws
 pub mod JudgeLaws
 pub mod SplitLaws

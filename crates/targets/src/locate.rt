@@ -1,5 +1,6 @@
 // What an address comes to, as a number.
 ghost use mathlib.Core.Path.{_≡_};
+ghost use Prim.Native.Nat.{_^_, _<_};
 ghost use Rattle.targets.specs.CodeTargets.{placeOf, numberAt};
 use banks::Target;
 use registers::Registers;
@@ -14,12 +15,12 @@ pub(crate) const NOT_LENT: usize = 2;
 pub(crate) const FIRST_CELL: usize = 3;
 
 // REF-9: a call goes to cell k only if that is wholly lent.
-fn place(k: u32, bytes: usize) -> usize
+fn place(k: usize, bytes: usize) -> usize
+    requires { ⌜ k < 2 ^ 32 ⌝ }
     ensures { λ x. ⌜ x ≡ placeOf k bytes ⌝ }
 {
-    let cell = k as usize;
-    if 9 * cell + 9 <= bytes {
-        return FIRST_CELL + cell;
+    if 9 * k + 9 <= bytes {
+        return FIRST_CELL + k;
     }
     NOT_LENT
 }

@@ -13,12 +13,8 @@ pub const UNFILLED_BYTE: u8 = 0xA6;
 /// a call went: a refusal is what the call returned, and below this.
 pub const ACCEPTED: u32 = 0x1_0000;
 
-/// The ways of reads, writes and scrubs of one part: the kinds of `mpc106.h`.
-pub const CLEAN: u32 = ACCEPTED + 1;
-pub const CORRECTED: u32 = ACCEPTED + 2;
-pub const UNCORRECTABLE: u32 = ACCEPTED + 3;
-pub const STORED: u32 = ACCEPTED + 4;
-pub const NO_BANK: u32 = ACCEPTED + 5;
+/// The kind of a part that was corrected: its low byte.
+const CORRECTED: u32 = 2;
 
 /// A refusal is its number plus 256 times the bank that it returns.
 pub fn of_refusal(refusal: Refusal) -> u32 {
@@ -33,36 +29,43 @@ pub fn of_result<T>(result: &Result<T, Refusal>) -> u32 {
     }
 }
 
-fn kind(answer: Answer) -> u32 {
-    let way = match answer {
-        Answer::Clean => CLEAN,
-        Answer::Corrected => CORRECTED,
-        Answer::Uncorrectable => UNCORRECTABLE,
-        Answer::Stored => STORED,
-        Answer::NoBank => NO_BANK,
-    };
-    way - ACCEPTED
+/// A part as `mpc106.h` has it: the kind in the low byte, and in the next the
+/// flip bit of a correction. For the other kinds that byte is 0.
+fn part(answer: Answer) -> u32 {
+    match answer {
+        Answer::Clean => 1,
+        Answer::Corrected(bit) => u32::from(bit) << 8 | CORRECTED,
+        Answer::Uncorrectable => 3,
+        Answer::Stored => 4,
+        Answer::NoBank => 5,
+    }
+}
+
+/// The flip bit of a part that was corrected, and of no other.
+pub fn flip_bit(part: u32) -> Option<u32> {
+    (part & 0xFF == CORRECTED).then_some(part >> 8)
 }
 
 /// The numbers that an accepted read, write, scrub or burst gives: how many
-/// parts it has, and the kind of each.
+/// parts it has, and each of them.
 pub fn numbers_of_parts(parts: &[Answer]) -> Numbers {
     let mut numbers = [0; 5];
-    let (count, kinds) = numbers.split_first_mut().expect("five numbers");
+    let (count, places) = numbers.split_first_mut().expect("five numbers");
     *count = parts.len() as u32;
-    for (number, &part) in kinds.iter_mut().zip(parts) {
-        *number = kind(part);
+    for (number, &answer) in places.iter_mut().zip(parts) {
+        *number = part(answer);
     }
     numbers
 }
 
 /// What names the way of an accepted read, write, scrub or burst: the kind of
-/// each part is a hexadecimal digit, and that of the first part comes first.
+/// each part is a hexadecimal digit, and that of the first part comes first. The
+/// bits of corrections are left out.
 pub fn digits_of_parts([count, parts @ ..]: Numbers) -> u32 {
     parts
         .iter()
         .take(count as usize)
-        .fold(0, |digits, kind| digits << 4 | kind & 0xF)
+        .fold(0, |digits, part| digits << 4 | part & 0xF)
 }
 
 /// The numbers if an accepted call gives one.

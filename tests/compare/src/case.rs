@@ -2,15 +2,12 @@
 
 use std::fmt;
 
-use model::{Call, Record};
+use model::Record;
 
-use crate::answers::ACCEPTED;
 use crate::coverage::Coverage;
 use crate::request::{nonzero, Given, Request, State};
 use crate::shrink::{self, Budget};
-
-/// The kind of a call and its outcome.
-pub type Met = (&'static str, u32);
+use crate::ways::{met, met_bits, Met};
 
 /// Where each call gets what the one before left.
 #[derive(Clone)]
@@ -36,6 +33,7 @@ impl Case {
             let from_library = library.ask_library(request);
             let from_model = model.ask_model(request);
             coverage.meet(met(request, from_model.way(request)));
+            coverage.extend(met_bits(request, &from_model));
             let text = Given::difference(&from_library, &from_model)
                 .or_else(|| State::difference(&library, &model));
             if let Some(text) = text {
@@ -150,69 +148,4 @@ impl fmt::Display for Case {
         }
         Ok(())
     }
-}
-
-/// MEM-17: a read or write that runs into the next doubleword, or past the last
-/// address. One whose count gets refusal 6 is none.
-pub fn is_split(address: u32, count: usize) -> bool {
-    (1..=8).contains(&count) && address as usize % 8 + count > 8
-}
-
-/// A register's value, a count of cells, an address and the bank of a refusal
-/// don't name a way of their own.
-pub fn met(request: &Request, way: u32) -> Met {
-    let kind = match request {
-        Request::Judge => "judge",
-        Request::CellCount => "count",
-        Request::Map(_) => "map",
-        Request::WayBack { bank, .. } if *bank > 255 => "wide way back",
-        Request::WayBack { .. } => "way back",
-        Request::Alike(_) => "alike",
-        Request::WideFlip { .. } => "wide flip",
-        Request::WideGet { .. } => "wide get",
-        Request::WideSet { .. } => "wide set",
-        Request::Listed(Call::Read { address, count }) if is_split(*address, *count) => {
-            "split read"
-        }
-        Request::Listed(Call::Write { address, bytes }) if is_split(*address, bytes.len()) => {
-            "split write"
-        }
-        Request::Listed(Call::Read { .. }) => "read",
-        Request::Listed(Call::Write { .. }) => "write",
-        Request::Listed(Call::Flip { .. }) => "flip",
-        Request::Listed(Call::Scrub { .. }) => "scrub",
-        Request::Listed(Call::BurstRead { .. }) => "burst read",
-        Request::Listed(Call::BurstWrite { .. }) => "burst write",
-        Request::Listed(Call::ReadRegister { .. }) => "get",
-        Request::Listed(Call::WriteRegister { .. }) => "set",
-    };
-    let way = match way {
-        refused if refused < ACCEPTED => refused % 256,
-        _ if matches!(kind, "get" | "count" | "way back") => ACCEPTED,
-        accepted => accepted,
-    };
-    (kind, way)
-}
-
-/// Accepted calls of that many parts, each part of each of these kinds.
-pub fn mixtures(
-    kind: &'static str,
-    parts: u32,
-    kinds: &'static [u32],
-) -> impl Iterator<Item = Met> {
-    let of_part = |digits: u32, part: u32| digits >> (4 * part) & 0xF;
-    (0..1 << (4 * parts))
-        .filter(move |&digits| (0..parts).all(|part| kinds.contains(&of_part(digits, part))))
-        .map(move |digits| (kind, ACCEPTED + digits))
-}
-
-/// All outcomes of one kind of call that a test must cover.
-pub fn ways(
-    kind: &'static str,
-    accepted: &'static [u32],
-    refused: &'static [u32],
-) -> impl Iterator<Item = Met> {
-    let accepted = accepted.iter().map(|given| ACCEPTED + given);
-    let refused = refused.iter().copied();
-    accepted.chain(refused).map(move |way| (kind, way))
 }

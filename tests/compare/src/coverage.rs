@@ -19,6 +19,10 @@ impl<K: Ord + Debug> Coverage<K> {
         self.met.insert(key);
     }
 
+    pub fn extend(&mut self, keys: impl IntoIterator<Item = K>) {
+        self.met.extend(keys);
+    }
+
     /// An error that names the answers that should have occurred and did not.
     pub fn check(&self, wanted: impl IntoIterator<Item = K>) -> Result<(), String> {
         let lacking: Vec<K> = wanted

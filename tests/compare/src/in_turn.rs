@@ -3,8 +3,9 @@
 
 use model::Call;
 
-use crate::case::{is_split, Case};
+use crate::case::Case;
 use crate::request::{Given, Request, State};
+use crate::ways::is_split;
 
 /// The call on the record and cells of a case. If it is refused there is
 /// nothing to compare.

@@ -17,6 +17,8 @@ mod limit;
 mod request;
 mod shrink;
 mod tests;
+mod ways;
+mod wrapper;
 
 use std::env;
 use std::path::PathBuf;

@@ -160,10 +160,14 @@ fn numbers_of_place(place: Option<map::Place>) -> Numbers {
 impl Request {
     /// Is lent five numbers, and not one.
     fn fills_all(&self) -> bool {
+        self.has_answer() || matches!(self, Request::Map(_))
+    }
+
+    /// Gives an answer of one part or more.
+    fn has_answer(&self) -> bool {
         matches!(
             self,
-            Request::Map(_)
-                | Request::Listed(Call::Read { .. } | Call::Write { .. } | Call::Scrub { .. })
+            Request::Listed(Call::Read { .. } | Call::Write { .. } | Call::Scrub { .. })
                 | Request::Listed(Call::BurstRead { .. } | Call::BurstWrite { .. })
         )
     }
@@ -227,6 +231,16 @@ impl Given {
         self.accept(record.read_register(offset), |given, value| {
             given.value = value;
         });
+    }
+
+    /// The parts of an answer: none if the call was refused or gives no answer.
+    pub fn parts_of_answer(&self, request: &Request) -> &[u32] {
+        let [count, parts @ ..] = &self.numbers;
+        if self.result == 0 && request.has_answer() {
+            &parts[..parts.len().min(*count as usize)]
+        } else {
+            &[]
+        }
     }
 
     /// The part of the buffer that is lent to a read or burst read.

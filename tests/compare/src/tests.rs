@@ -2,6 +2,7 @@
 
 mod bursts;
 mod examples;
+mod flipped_bit;
 mod limit;
 mod lists;
 mod map;
@@ -10,6 +11,7 @@ mod registers;
 mod scripts;
 mod shrinking;
 mod splits;
+mod wrapper;
 
 use model::gen::Rng;
 
@@ -32,6 +34,9 @@ pub const TESTS: &[Test] = &[
     test("examples-splits", |_, _| examples::splits()),
     test("examples-bursts", |_, _| examples::bursts()),
     test("examples-lines", |_, busline| examples::lines(busline)),
+    test("examples-lines-bits", |_, busline| {
+        examples::lines_with_bits(busline)
+    }),
     test("bank-ends", |_, busline| examples::bank_ends(busline)),
     test("registers", |rng, _| registers::random_calls(rng)),
     test("registers-every-write", |rng, _| {
@@ -56,6 +61,16 @@ pub const TESTS: &[Test] = &[
     test("bursts", |rng, _| bursts::from_any_state(rng)),
     test("bursts-edges", |rng, _| bursts::edges(rng)),
     test("bursts-lent", |rng, _| bursts::partly_lent(rng)),
+    test("flipped-bit", |rng, _| flipped_bit::of_single_calls(rng)),
+    test("flipped-bit-bursts", |rng, _| flipped_bit::of_beats(rng)),
+    test("flipped-bit-splits", |rng, _| flipped_bit::of_parts(rng)),
+    test("flipped-bit-three-flips", |rng, _| {
+        flipped_bit::of_three_flips(rng)
+    }),
+    test("flipped-bit-other-kinds", |rng, _| {
+        flipped_bit::none_without_correction(rng)
+    }),
+    test("wrapper", |rng, _| wrapper::beside_the_library(rng)),
     test("limit", |rng, _| limit::beside_the_library(rng)),
     test("lists", |rng, _| lists::against_flat_machine(rng)),
     test("scripts", scripts::random_scripts),

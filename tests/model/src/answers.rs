@@ -9,7 +9,8 @@ use crate::code::Reading;
 #[derive(Clone, Copy, Debug, PartialEq, Eq, Hash)]
 pub enum Answer {
     Clean,
-    Corrected,
+    /// ECC-6: one bit was wrong and was put right, this flip bit (0 to 71).
+    Corrected(u8),
     Uncorrectable,
     Stored,
     NoBank,
@@ -19,7 +20,7 @@ impl From<Reading> for Answer {
     fn from(reading: Reading) -> Self {
         match reading {
             Reading::Clean => Answer::Clean,
-            Reading::Corrected(_) => Answer::Corrected,
+            Reading::Corrected(bit) => Answer::Corrected(bit),
             Reading::Uncorrectable => Answer::Uncorrectable,
         }
     }

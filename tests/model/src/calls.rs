@@ -42,7 +42,8 @@ pub enum Call {
     },
 }
 
-/// What is compared of a memory call.
+/// What is compared of a memory call. LIST-9: answers are compared with the bits
+/// of their corrections.
 #[derive(Clone, Debug, PartialEq, Eq)]
 pub enum Outcome {
     Refused(Refusal),

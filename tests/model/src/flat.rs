@@ -1,6 +1,6 @@
 //! The flat machine (FLAT-1), which has no cells and no check bytes.
 
-use std::collections::{HashMap, HashSet};
+use std::collections::HashMap;
 use std::ops::Range;
 
 use crate::answers::{Answer, Answers};
@@ -16,13 +16,14 @@ pub struct Span {
     pub last_mb: u32,
 }
 
-/// FLAT-1: an address without an entry has the byte 0, and a doubleword that is
-/// not in `marks` has no mark.
+/// FLAT-1: an address without an entry has the byte 0, and a doubleword without
+/// one has no mark. FLAT-5: what stands in `marks` is the flip bit that set the
+/// mark.
 #[derive(Clone, Debug, Default)]
 pub struct FlatMachine {
     spans: Vec<Span>,
     bytes: HashMap<u32, u8>,
-    marks: HashSet<u32>,
+    marks: HashMap<u32, u8>,
 }
 
 impl FlatMachine {
@@ -91,7 +92,7 @@ impl FlatMachine {
         }
         let addresses = address..=address + (count as u32 - 1);
         bytes.extend(addresses.map(|at| self.bytes.get(&at).copied().unwrap_or(0)));
-        answer_by_mark(self.marks.contains(&doubleword(address)))
+        answer_by_mark(self.marks.get(&doubleword(address)).copied())
     }
 
     /// FLAT-2, FLAT-9
@@ -110,15 +111,15 @@ impl FlatMachine {
         for (distance, &byte) in (0..).zip(bytes) {
             self.bytes.insert(address + distance, byte);
         }
-        let marked = self.marks.remove(&doubleword(address));
+        let mark = self.marks.remove(&doubleword(address));
         if bytes.len() == 8 {
             Answer::Stored
         } else {
-            answer_by_mark(marked)
+            answer_by_mark(mark)
         }
     }
 
-    /// FLAT-5
+    /// FLAT-5: the mark remembers the bit of this flip, whichever stood before.
     fn flip(&mut self, address: u32, bit: u8) -> Result<Outcome, Refusal> {
         if bit > 71 {
             return Err(Refusal::BadFlipBit);
@@ -126,7 +127,7 @@ impl FlatMachine {
         if !self.selects_bank(address) {
             return Err(Refusal::FlipWithoutBank);
         }
-        self.marks.insert(doubleword(address));
+        self.marks.insert(doubleword(address), bit);
         Ok(Outcome::Flipped)
     }
 
@@ -190,12 +191,9 @@ pub fn doubleword(address: u32) -> u32 {
     address / 8
 }
 
-fn answer_by_mark(marked: bool) -> Answer {
-    if marked {
-        Answer::Corrected
-    } else {
-        Answer::Clean
-    }
+/// The mark knows by itself which bit is put right: there is no syndrome here.
+fn answer_by_mark(mark: Option<u8>) -> Answer {
+    mark.map_or(Answer::Clean, Answer::Corrected)
 }
 
 /// FLAT-6: refusals 6 and 7 follow from the arguments. They are written again,

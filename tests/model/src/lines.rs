@@ -175,7 +175,11 @@ impl LineSplitter {
 
 /// LINE-12: the part after the letter.
 fn put_refusal(out: &mut Vec<u8>, refusal: Refusal) {
-    let number = refusal.number();
+    put_decimal(out, refusal.number());
+}
+
+/// A further field with a number below 100, without a leading zero.
+fn put_decimal(out: &mut Vec<u8>, number: u8) {
     out.push(b',');
     if number >= 10 {
         out.push(b'0' + number / 10);
@@ -187,18 +191,22 @@ fn put_accepted(out: &mut Vec<u8>) {
     out.extend_from_slice(b",0");
 }
 
-/// LINE-14: a letter for each access, in their order.
+/// LINE-14: a letter for each access, in their order, and after the letter of a
+/// correction its flip bit.
 fn put_answers(out: &mut Vec<u8>, answers: &[Answer]) {
     put_accepted(out);
     for &answer in answers {
         out.extend_from_slice(&[b',', letter(answer)]);
+        if let Answer::Corrected(bit) = answer {
+            put_decimal(out, bit);
+        }
     }
 }
 
 fn letter(answer: Answer) -> u8 {
     match answer {
         Answer::Clean => b'n',
-        Answer::Corrected => b'c',
+        Answer::Corrected(_) => b'c',
         Answer::Uncorrectable => b'u',
         Answer::NoBank => b'e',
         Answer::Stored => b'p',

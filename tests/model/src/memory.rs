@@ -181,7 +181,7 @@ pub(crate) fn report(record: &mut Record, answer: Answer, address: u32) {
     let was_quiet = record.at(ERROR_DETECTION_1) == 0 && record.at(ERROR_DETECTION_2) == 0;
     let detected = match answer {
         Answer::Clean | Answer::Stored => false,
-        Answer::Corrected => count_correction(record),
+        Answer::Corrected(_) => count_correction(record),
         // ERR-3
         Answer::NoBank => detect(record, ERROR_ENABLE_1, ERROR_DETECTION_1, NO_BANK_BIT),
         // ERR-4

@@ -28,7 +28,7 @@ fn the_counter_reports_when_it_reaches_the_trigger() {
     flip(&record, &mut cells, 8, 71).unwrap();
     for expected in [(1, 0), (2, 0x04), (3, 0x04)] {
         let answer = read(&mut record, &cells, 10 + expected.0, &mut [0]);
-        assert_eq!(answer, Ok(Single(Answer::Corrected)));
+        assert_eq!(answer, Ok(Single(Answer::Corrected(71))));
         let seen = (u32::from(record.at(0xB8)), record.at(0xC1));
         assert_eq!(seen, expected);
     }
@@ -45,7 +45,7 @@ fn the_counter_stops_at_255_and_reports_nothing_there() {
     assert_eq!((record.at(0xB8), record.at(0xC1)), (255, 4));
     record.write_register(0xC1, 0xFF).unwrap();
     let answer = scrub(&mut record, &mut cells, 0);
-    assert_eq!(answer, Ok(Answer::Corrected));
+    assert_eq!(answer, Ok(Answer::Corrected(0)));
     assert_eq!((record.at(0xB8), record.at(0xC1)), (255, 0));
 }
 
@@ -117,9 +117,10 @@ fn a_read_leaves_the_cell_and_a_scrub_stores_it_again() {
         let flipped = cells.clone();
         let mut buffer = [0; 8];
         let answer = read(&mut record, &cells, 0, &mut buffer);
-        assert_eq!((answer, buffer), (Ok(Single(Answer::Corrected)), [9; 8]));
+        let corrected = Answer::Corrected(bit);
+        assert_eq!((answer, buffer), (Ok(Single(corrected)), [9; 8]));
         assert_eq!(cells, flipped);
-        assert_eq!(scrub(&mut record, &mut cells, 7), Ok(Answer::Corrected));
+        assert_eq!(scrub(&mut record, &mut cells, 7), Ok(corrected));
         assert_eq!(cells, right);
     }
     assert_eq!(record.at(0xB8), 144);

@@ -106,7 +106,7 @@ fn different_registers_can_be_alike() {
 fn line_program() {
     let input = "c,90,01\nc,a0,01\nc,f2,08\nw,00000010,8000000000000000\n\
                  f,00000010,2\nr,00000010,8\ng,b8\nr,00200000,1\nr,00000007,2\n";
-    let expected = "c,0\nc,0\nc,0\nw,0,p\nf,0\nr,0,c,8000000000000000\n\
+    let expected = "c,0\nc,0\nc,0\nw,0,p\nf,0\nr,0,c,2,8000000000000000\n\
                     g,0,01\nr,0,e,ff\nr,0,n,n,0000\n";
     let mut output = Vec::new();
     lines::run(input.as_bytes(), &mut output).unwrap();

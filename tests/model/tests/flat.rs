@@ -49,10 +49,12 @@ fn flat_machine_against_cells() {
     assert_eq!(seen.len(), 13 + 2 * 9 + 4 + 2 + 2, "{seen:?}");
 }
 
-/// What kind of outcome it is, bytes left out; of a burst, which answers occur.
+/// What kind of outcome it is, bytes and bits left out; of a burst, which answers
+/// occur.
 fn kind(outcome: &Option<Outcome>) -> String {
     match outcome {
-        Some(Outcome::Read(answers, _)) => format!("read {answers:?}"),
+        Some(Outcome::Read(answers, _)) => format!("read {:?}", names(answers.kinds())),
+        Some(Outcome::Answered(answers)) => format!("{:?}", names(answers.kinds())),
         Some(Outcome::BurstRead(answers, _)) => format!("burst read {}", occurring(answers)),
         Some(Outcome::BurstWritten(answers)) => format!("burst write {}", occurring(answers)),
         other => format!("{other:?}"),
@@ -60,8 +62,17 @@ fn kind(outcome: &Option<Outcome>) -> String {
 }
 
 fn occurring(answers: &[Answer]) -> String {
-    let names: BTreeSet<String> = answers.iter().map(|answer| format!("{answer:?}")).collect();
+    let names: BTreeSet<String> = names(answers).into_iter().collect();
     format!("{names:?}")
+}
+
+/// Corrections have one name, whichever bits they tell.
+fn names(answers: &[Answer]) -> Vec<String> {
+    let name = |answer: &Answer| match answer {
+        Answer::Corrected(_) => "Corrected".into(),
+        other => format!("{other:?}"),
+    };
+    answers.iter().map(name).collect()
 }
 
 #[test]
@@ -136,19 +147,19 @@ fn flat_machine_answers_by_the_mark() {
     use Outcome::{Answered, Flipped, Read};
     let (address, count) = (4, 2);
     let read = || Call::Read { address, count };
-    let flip = || Call::Flip { address: 3, bit: 9 };
+    let flip = |bit| Call::Flip { address: 3, bit };
     let scrub = || Call::Scrub { address: 1 };
     let list = [
         (read(), Read(Single(Answer::Clean), vec![0, 0])),
-        (flip(), Flipped),
-        (read(), Read(Single(Answer::Corrected), vec![0, 0])),
-        (write(5, &[0xAB]), Answered(Single(Answer::Corrected))),
+        (flip(9), Flipped),
+        (read(), Read(Single(Answer::Corrected(9)), vec![0, 0])),
+        (write(5, &[0xAB]), Answered(Single(Answer::Corrected(9)))),
         (read(), Read(Single(Answer::Clean), vec![0, 0xAB])),
-        (flip(), Flipped),
+        (flip(40), Flipped),
         (write(0, &[1; 8]), Answered(Single(Answer::Stored))),
         (write(6, &[2]), Answered(Single(Answer::Clean))),
-        (flip(), Flipped),
-        (scrub(), Answered(Single(Answer::Corrected))),
+        (flip(71), Flipped),
+        (scrub(), Answered(Single(Answer::Corrected(71)))),
         (scrub(), Answered(Single(Answer::Clean))),
     ];
     let mut flat = flat_megabyte();

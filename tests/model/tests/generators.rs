@@ -77,7 +77,7 @@ fn marks_met(flat: &mut FlatMachine, address: u32) -> usize {
     match flat.step(&Call::BurstRead { address, count: 32 }) {
         Some(Outcome::BurstRead(answers, _)) => answers
             .iter()
-            .filter(|&&answer| answer == Answer::Corrected)
+            .filter(|answer| matches!(answer, Answer::Corrected(_)))
             .count(),
         other => panic!("an accepted burst: {other:?}"),
     }
@@ -155,7 +155,7 @@ fn is_marked(flat: &mut FlatMachine, address: u32) -> bool {
     let read = flat.step(&Call::Read { address, count: 8 });
     matches!(
         read,
-        Some(Outcome::Read(Answers::Single(Answer::Corrected), _))
+        Some(Outcome::Read(Answers::Single(Answer::Corrected(_)), _))
     )
 }
 

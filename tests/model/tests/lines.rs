@@ -140,11 +140,12 @@ fn chunks_of_any_size_give_the_same() {
     }
 }
 
-/// The start of an output line, without bytes or values: letter, 0 or refusal,
-/// and the letters of the answers.
+/// The start of an output line, without bytes, values or bits: letter, 0 or
+/// refusal, and the letters of the answers.
 fn start_of(line: &str) -> String {
     let fields: Vec<&str> = line.split(',').collect();
-    let shown = |&(place, field): &(usize, &str)| place < 2 || field.len() == 1;
+    let is_answer = |field: &str| matches!(field, "n" | "c" | "u" | "e" | "p");
+    let shown = |&(place, field): &(usize, &str)| place < 2 || is_answer(field);
     let kept = fields.into_iter().enumerate().filter(shown);
     kept.map(|(_, field)| field).collect::<Vec<_>>().join(",")
 }

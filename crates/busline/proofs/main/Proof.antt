@@ -12,7 +12,7 @@ slice-aggregate-run-2 : tie.Need-slice-aggregate-run-2
 slice-aggregate-run-2 c = sym (length-replicate {A = ℕ} 16384 0)
 
 slice-aggregate-run-3 : tie.Need-slice-aggregate-run-3
-slice-aggregate-run-3 c = sym (length-replicate {A = ℕ} 475136 0)
+slice-aggregate-run-3 c = sym (length-replicate {A = ℕ} 671744 0)
 
 run-requires : tie.Need-run-requires
 run-requires c κs = tt

@@ -96,6 +96,7 @@ find-bit-spec =
     μ-loop2
     loop-holds
     shared-slice-read-if1
+    (λ c. record { fits = omega arith })
     returns
     add-b
     loop-less
@@ -103,6 +104,7 @@ find-bit-spec =
     loop2-holds
     sub-unit
     unit-requires
+    (λ c. record { fits = omega arith })
     returns-2
     add-b-2
     loop2-less

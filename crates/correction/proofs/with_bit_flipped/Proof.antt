@@ -17,4 +17,4 @@ returns-2 c = number-flip (c .before .args .doubleword) (c .before .args .b) (om
 
 pub with-bit-flipped-spec : {M : Type 1} → statement M
 with-bit-flipped-spec =
-    tie.close (tie.spec returns (λ c. search needs) (λ c. search needs) (λ c. search needs) (λ c. search needs) returns-2)
+    tie.close (tie.spec returns (λ c. search needs) (λ c. search needs) (λ c. search needs) (λ c. search needs) (λ c. search needs) returns-2)

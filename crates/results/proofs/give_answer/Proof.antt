@@ -3,7 +3,7 @@ use Rattle.results.proofs.give_answer.Statement.{statement}
 use Rattle.results.proofs.give_answer.Tie as tie
 
 returns : tie.Need-returns
-returns c = simp (c .before .before .enum-told .given .1, c .numbers-of .ensures)
+returns c = simp (c .before .before .before .enum-told .given .1, c .put-parts .ensures)
 
 returns-2 : tie.Need-returns-2
 returns-2 c = simp (c .before .before .verdict .given .1, c .of-refusal .ensures)

@@ -6,12 +6,13 @@ use model::gen::{setups, Rng};
 use model::map;
 use model::Call;
 
-use crate::case::{mixtures, ways, Case, Met};
+use crate::case::Case;
 use crate::coverage::Coverage;
 use crate::draw;
 use crate::in_turn;
 use crate::lent;
 use crate::request::Request;
+use crate::ways::{every_bit, mixtures, ways, Met};
 
 const CASES: usize = 60_000;
 
@@ -78,6 +79,7 @@ pub fn partly_lent(rng: &mut Rng) -> Result<String, String> {
 /// All ways that bursts go. A line lies in one bank or in none.
 pub fn all_ways() -> impl Iterator<Item = Met> {
     mixtures("burst read", 4, &[1, 2, 3])
+        .chain(every_bit("burst read", 4))
         .chain(ways("burst read", &[0x5555], &[5, 9, 19, 20]))
         .chain(ways("burst write", &[0x4444, 0x5555], &[5, 9, 19, 20]))
 }

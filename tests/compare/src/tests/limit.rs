@@ -4,13 +4,14 @@
 use model::gen::Rng;
 use model::map;
 
-use crate::case::{met, ways, Case, Met};
+use crate::case::Case;
 use crate::coverage::Coverage;
 use crate::draw;
 use crate::limit;
 use crate::request::{nonzero, Given, Request, State};
 use crate::tests::memory;
 use crate::tests::splits::edges;
+use crate::ways::{met, met_bits, ways, Met};
 
 const CASES: usize = 12_000;
 const MAPS: usize = 12;
@@ -56,6 +57,7 @@ fn check(case: &Case, coverage: &mut Coverage<Met>) -> Result<(), String> {
             continue;
         };
         coverage.meet(met(request, from_library.way(request)));
+        coverage.extend(met_bits(request, &from_library));
         let text = Given::difference(&from_library, &from_limit)
             .or_else(|| State::difference(&library, &by_hand));
         if let Some(text) = text {

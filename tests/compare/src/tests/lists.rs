@@ -9,13 +9,13 @@ use model::record::{offset, SWITCH_ON};
 use model::{Call, Outcome, Record};
 
 use crate::answers::{self, ACCEPTED};
-use crate::case::{met, mixtures, ways, Met};
 use crate::coverage::Coverage;
 use crate::draw;
 use crate::library;
 use crate::request::{nonzero, Given, Request, State};
 use crate::shrink::{self, Budget};
 use crate::tests::splits;
+use crate::ways::{every_bit, every_bit_of_single_calls, met, met_bits, mixtures, ways, Met};
 
 const LISTS: usize = 1_500;
 const CALLS: usize = 400;
@@ -101,6 +101,7 @@ fn difference(
         };
         let from_flat = from_flat(&request, outcome);
         coverage.meet(met(&request, from_flat.way(&request)));
+        coverage.extend(met_bits(&request, &from_flat));
         if let Some(text) = Given::difference(&from_library, &from_flat) {
             return Some((index, text));
         }
@@ -158,7 +159,9 @@ fn smallest(off: &Record, calls: &[Call]) -> String {
     )
 }
 
-/// Under the condition nothing is uncorrectable, and every cell is lent.
+/// Under the condition nothing is uncorrectable, and every cell is lent. The bit
+/// of a correction is the one that the mark remembers (FLAT-5), any of them at
+/// any part.
 fn wanted() -> impl Iterator<Item = Met> {
     ways("read", &[1, 2, 5], &[6])
         .chain(ways("write", &[1, 2, 4, 5], &[6]))
@@ -169,4 +172,7 @@ fn wanted() -> impl Iterator<Item = Met> {
         .chain(mixtures("burst read", 4, &[1, 2]))
         .chain(ways("burst read", &[0x5555], &[19, 20]))
         .chain(ways("burst write", &[0x4444, 0x5555], &[19, 20]))
+        .chain(every_bit_of_single_calls())
+        .chain(splits::of_both(|kind| every_bit(kind, 2)))
+        .chain(every_bit("burst read", 4))
 }

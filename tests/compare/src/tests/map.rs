@@ -5,11 +5,12 @@ use model::map::{self, Layout};
 use model::Record;
 
 use crate::answers::{self, ACCEPTED};
-use crate::case::{ways, Case, Met};
+use crate::case::Case;
 use crate::coverage::Coverage;
 use crate::draw;
 use crate::library;
 use crate::request::{nonzero, Request};
+use crate::ways::{ways, Met};
 
 const RECORDS: usize = 30_000;
 const CALLS: usize = 24;

@@ -6,12 +6,13 @@ use model::map::{self, Layout};
 use model::record::offset;
 use model::{Call, Record};
 
-use crate::case::{ways, Case, Met};
+use crate::case::Case;
 use crate::coverage::Coverage;
 use crate::draw;
 use crate::lent;
 use crate::request::Request;
 use crate::tests::{bursts, splits};
+use crate::ways::{every_bit_of_single_calls, ways, Met};
 
 const CASES: usize = 16_000;
 const CALLS: usize = 60;
@@ -77,6 +78,7 @@ pub fn all_ways() -> impl Iterator<Item = Met> {
         .chain(ways("scrub", &[1, 2, 3, 5], &[5, 9]))
         .chain(ways("flip", &[0], &[5, 8, 9, 10]))
         .chain(ways("wide flip", &[], &[5, 8]))
+        .chain(every_bit_of_single_calls())
         .chain(splits::all_ways())
         .chain(bursts::all_ways())
 }

@@ -4,11 +4,12 @@ use model::gen::Rng;
 use model::record::{is_extended, offset};
 use model::{Call, Record};
 
-use crate::case::{ways, Case};
+use crate::case::Case;
 use crate::coverage::Coverage;
 use crate::draw;
 use crate::library;
 use crate::request::Request;
+use crate::ways::ways;
 
 const RECORDS: usize = 8_000;
 const WRITES: usize = 60;

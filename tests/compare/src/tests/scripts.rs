@@ -1,11 +1,14 @@
 //! Line scripts through `busline` and through the model's line program.
 
+mod output;
+
 use model::gen::{scripts, Rng};
 use model::lines;
 
 use crate::busline::{Busline, Feed};
 use crate::coverage::Coverage;
 use crate::shrink::{self, Budget};
+use output::{bits, every_bit, head};
 
 const LONG_SCRIPTS: usize = 12;
 const LONG_LINES: usize = 30_000;
@@ -53,6 +56,9 @@ pub fn random_scripts(rng: &mut Rng, busline: &Busline) -> Result<String, String
     for letter in ["r", "w"] {
         let split = |answers| format!("{letter},0,{answers}").into_bytes();
         coverage.check(SPLITS.iter().map(split))?;
+    }
+    for (letter, accesses) in [("r", 2), ("w", 2), ("s", 1)] {
+        coverage.check((0..accesses).flat_map(|access| every_bit(letter, access)))?;
     }
     let lines = LONG_SCRIPTS * LONG_LINES + MIDDLE_SCRIPTS * MIDDLE_LINES;
     Ok(format!("{lines} lines"))
@@ -136,6 +142,7 @@ fn compare(
     let from_model = model_output(input);
     for line in from_model.split(|&byte| byte == b'\n') {
         coverage.meet(head(line));
+        coverage.extend(bits(line));
     }
     match busline.run(input, feed) {
         Ok(output) if output == from_model => Ok(()),
@@ -147,15 +154,6 @@ fn model_output(input: &[u8]) -> Vec<u8> {
     let mut output = Vec::new();
     lines::run(input, &mut output).expect("neither end can fail");
     output
-}
-
-/// Letter and number, with the answers of w, r and s, which are one letter
-/// each, without what is read.
-fn head(line: &[u8]) -> Vec<u8> {
-    let fields: Vec<&[u8]> = line.split(|&byte| byte == b',').collect();
-    let answers = fields.iter().skip(2);
-    let answers = answers.take_while(|field| field.len() == 1).count();
-    fields[..fields.len().min(2 + answers)].join(&b',')
 }
 
 /// The smallest script found on which the outputs differ, with the first

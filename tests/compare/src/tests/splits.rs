@@ -9,19 +9,20 @@ use model::map;
 use model::record::{offset, SWITCH_ON};
 use model::{Call, Record};
 
-use crate::case::{mixtures, ways, Case, Met};
+use crate::case::Case;
 use crate::coverage::Coverage;
 use crate::draw;
 use crate::in_turn;
 use crate::lent;
 use crate::request::Request;
+use crate::ways::{every_bit, mixtures, ways, Met};
 
 const CASES: usize = 60_000;
 
 const PLACE_RECORDS: usize = 40;
 
 /// The place of the first byte in its doubleword and the count, of each split.
-fn places_and_counts() -> impl Iterator<Item = (u32, usize)> {
+pub fn places_and_counts() -> impl Iterator<Item = (u32, usize)> {
     (1..8).flat_map(|place| (9 - place..=8).map(move |count| (place, count as usize)))
 }
 
@@ -53,7 +54,9 @@ pub fn from_any_state(rng: &mut Rng) -> Result<String, String> {
 /// megabyte. The tests of edges have it.
 pub fn all_ways() -> impl Iterator<Item = Met> {
     of_both(|kind| {
-        mixtures(kind, 2, &[1, 2, 3]).chain(ways(kind, &[0x51, 0x52, 0x53, 0x55], &[5, 7, 9]))
+        mixtures(kind, 2, &[1, 2, 3])
+            .chain(ways(kind, &[0x51, 0x52, 0x53, 0x55], &[5, 7, 9]))
+            .chain(every_bit(kind, 2))
     })
 }
 

@@ -86,7 +86,7 @@ fn bursts_of_the_flat_machine() {
         bytes: bytes.to_vec(),
     };
     let flip = |address| Call::Flip { address, bit: 9 };
-    let marked = [Clean, Clean, Corrected, Clean];
+    let marked = [Clean, Clean, Corrected(9), Clean];
     let bytes: Vec<u8> = (1..=32).collect();
     let rotated = [&bytes[24..], &bytes[..24]].concat();
     let list = [

@@ -63,7 +63,7 @@ fn a_burst_write_starts_at_its_address_and_wraps() {
 fn each_beat_has_its_own_kind() {
     let line = [
         (Answer::Clean, [1; 8]),
-        (Answer::Corrected, [2; 8]),
+        (Answer::Corrected(0), [2; 8]),
         (Answer::Clean, [3; 8]),
         (Answer::Uncorrectable, [0x84, 4, 4, 4, 4, 4, 4, 4]),
     ];

@@ -116,5 +116,6 @@ fn random_bursts_are_four_single_calls() {
         }
         assert!(cells == singles, "seed {seed}");
     }
-    assert_eq!(seen.len(), 5, "{seen:?}");
+    // Clean, uncorrectable, stored, without a bank, and each bit corrected.
+    assert_eq!(seen.len(), 4 + 72, "{seen:?}");
 }

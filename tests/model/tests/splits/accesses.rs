@@ -7,8 +7,14 @@ use model::Answers::{Single, Split};
 
 use crate::{cell, mixtures, set_up, splits, with_addresses, with_flips, LOWER, UPPER};
 
-/// What a doubleword with none, one or two flips answers.
-const KINDS: [Answer; 3] = [Clean, Corrected, Uncorrectable];
+/// What both doublewords answer after none, one or two flips of [`with_flips`].
+fn kinds(flips: [usize; 2]) -> [Answer; 2] {
+    let [lower, upper] = flips;
+    [
+        [Clean, Corrected(63), Uncorrectable][lower],
+        [Clean, Corrected(0), Uncorrectable][upper],
+    ]
+}
 
 #[test]
 fn a_split_read_has_the_bytes_of_both_doublewords() {
@@ -80,7 +86,7 @@ fn each_access_of_a_read_has_its_own_kind() {
         let (mut record, cells) = with_flips(flips);
         let mut buffer = [0; 8];
         let answers = read(&mut record, &cells, UPPER - 3, &mut buffer);
-        assert_eq!(answers, Ok(Split(flips.map(|flips| KINDS[flips]))));
+        assert_eq!(answers, Ok(Split(kinds(flips))));
         let last = if flips[0] == 2 { 0x00 } else { 1 };
         let first = if flips[1] == 2 { 0x82 } else { 2 };
         assert_eq!(buffer, [1, 1, last, first, 2, 2, 2, 2]);
@@ -94,7 +100,7 @@ fn each_access_of_a_write_has_its_own_kind() {
         let (mut record, mut cells) = with_flips(flips);
         let mut expected = cells.clone();
         let answers = write(&mut record, &mut cells, UPPER - 3, &[9; 8]);
-        assert_eq!(answers, Ok(Split(flips.map(|flips| KINDS[flips]))));
+        assert_eq!(answers, Ok(Split(kinds(flips))));
         let lower = (LOWER, [1, 1, 1, 1, 1, 9, 9, 9]);
         let upper = (UPPER, [9, 9, 9, 9, 9, 2, 2, 2]);
         for ((address, bytes), flips) in [lower, upper].into_iter().zip(flips) {
@@ -126,7 +132,8 @@ fn a_split_write_merges_into_corrected_bytes() {
             flip(&record, &mut cells, LOWER, bit).unwrap();
             flip(&record, &mut cells, UPPER, 71 - bit).unwrap();
             let answers = write(&mut record, &mut cells, UPPER - front, &vec![0xEE; count]);
-            assert_eq!(answers, Ok(Split([Corrected; 2])), "{bit}");
+            let corrected = [Corrected(bit), Corrected(71 - bit)];
+            assert_eq!(answers, Ok(Split(corrected)), "{front}, {back}");
             assert_eq!(cells, expected, "{front}, {back}, {bit}");
             assert_eq!(record.at(0xB8), 2);
         }
@@ -139,7 +146,7 @@ fn a_split_read_leaves_the_cells() {
     let (mut record, cells) = with_flips([1, 1]);
     for _ in 0..3 {
         let answers = read(&mut record, &cells, UPPER - 1, &mut [0; 2]);
-        assert_eq!(answers, Ok(Split([Corrected; 2])));
+        assert_eq!(answers, Ok(Split([Corrected(63), Corrected(0)])));
     }
     assert_eq!(record.at(0xB8), 6);
     // The bits of `with_flips`, still wrong: the last data bit and the first.

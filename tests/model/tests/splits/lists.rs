@@ -104,17 +104,20 @@ fn answered(first: Answer, second: Answer) -> Outcome {
 #[test]
 fn splits_of_the_flat_machine() {
     use Outcome::{Answered, Flipped, Read, Refused};
-    let flip = |address| Call::Flip { address, bit: 9 };
+    let flip = |address, bit| Call::Flip { address, bit };
     let scrub = |address| Call::Scrub { address };
     flat_gives(&[
         (read(0x27, 2), got(Clean, Clean, &[0; 2])),
-        (flip(0x20), Flipped),
-        (read(0x25, 4), got(Corrected, Clean, &[0; 4])),
-        (flip(0x2F), Flipped),
-        (read(0x25, 8), got(Corrected, Corrected, &[0; 8])),
+        (flip(0x20, 9), Flipped),
+        (read(0x25, 4), got(Corrected(9), Clean, &[0; 4])),
+        (flip(0x2F, 70), Flipped),
+        (read(0x25, 8), got(Corrected(9), Corrected(70), &[0; 8])),
         // A refused write clears no mark and puts no byte.
         (write(0x25, &[7; 9]), Refused(Refusal::BadCount)),
-        (write(0x25, &[1, 2, 3, 4]), answered(Corrected, Corrected)),
+        (
+            write(0x25, &[1, 2, 3, 4]),
+            answered(Corrected(9), Corrected(70)),
+        ),
         (
             write(0x25, &[1, 2, 3, 4, 5, 6, 7, 8]),
             answered(Clean, Clean),
@@ -123,8 +126,11 @@ fn splits_of_the_flat_machine() {
         (read(0x28, 6), Read(Single(Clean), vec![4, 5, 6, 7, 8, 0])),
         (scrub(0x20), Answered(Single(Clean))),
         // Out of the span: only the access inside it does anything.
-        (flip(0x000F_FFF8), Flipped),
-        (write(0x000F_FFFF, &[9, 8, 7]), answered(Corrected, NoBank)),
+        (flip(0x000F_FFF8, 63), Flipped),
+        (
+            write(0x000F_FFFF, &[9, 8, 7]),
+            answered(Corrected(63), NoBank),
+        ),
         (
             read(0x000F_FFFE, 4),
             got(Clean, NoBank, &[0, 9, 0xFF, 0xFF]),

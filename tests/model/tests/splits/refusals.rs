@@ -107,7 +107,7 @@ fn the_order_of_refusals_of_a_split() {
 #[test]
 fn a_split_that_is_partly_lent_is_refused_whole() {
     let (record, cells) = touchy();
-    let answers = Answers::Split([Answer::Corrected, Answer::Uncorrectable]);
+    let answers = Answers::Split([Answer::Corrected(63), Answer::Uncorrectable]);
     for (front, back) in splits() {
         let (address, count) = (UPPER - front, (front + back) as usize);
         // The two cells end at 45 and 54.

@@ -1,6 +1,7 @@
 //! MEM-16: a split is its two single calls.
 
 use std::collections::HashSet;
+use std::mem;
 
 use model::gen::{edges, setups, Rng};
 use model::map::{map, switched_on};
@@ -104,9 +105,28 @@ fn accepted_edges(rng: &mut Rng, record: &Record) -> Vec<u32> {
     edges.filter(|&edge| edge != 0xFFFF_FFF8).collect()
 }
 
+/// What the accesses of reads and writes have answered.
+#[derive(Default)]
+struct Seen {
+    /// The kinds of both accesses, corrections of all bits being one kind.
+    kinds: HashSet<(bool, Vec<mem::Discriminant<Answer>>)>,
+    /// The answers of each access by itself, with the bits of corrections.
+    answers: HashSet<(bool, usize, Answer)>,
+}
+
+impl Seen {
+    fn note(&mut self, is_write: bool, answers: &Answers) {
+        let kinds = answers.kinds().iter().map(mem::discriminant).collect();
+        self.kinds.insert((is_write, kinds));
+        for (place, &answer) in answers.kinds().iter().enumerate() {
+            self.answers.insert((is_write, place, answer));
+        }
+    }
+}
+
 #[test]
 fn random_splits_are_two_single_calls() {
-    let mut seen = HashSet::new();
+    let mut seen = Seen::default();
     for seed in 0..60 {
         println!("seed {seed}");
         let rng = &mut Rng::new(seed);
@@ -121,7 +141,7 @@ fn random_splits_are_two_single_calls() {
             spoil(rng, &record, &mut cells, lower);
             let (address, count) = edges::split(rng, lower);
             let (answers, after) = same_reads(&record, &cells, address, count);
-            seen.insert((false, answers));
+            seen.note(false, &answers);
             record = after;
             if rng.percent(20) {
                 clear_errors(&mut record);
@@ -129,12 +149,13 @@ fn random_splits_are_two_single_calls() {
             let (address, count) = edges::split(rng, lower);
             let bytes = rng.bytes(count);
             let (answers, after) = same_writes(&record, &mut cells, &mut others, address, &bytes);
-            seen.insert((true, answers));
+            seen.note(true, &answers);
             record = after;
         }
         assert!(cells == others, "seed {seed}");
     }
     // Reads and writes: each access clean, corrected, uncorrectable or without
-    // a bank.
-    assert_eq!(seen.len(), 2 * 16, "{seen:?}");
+    // a bank, and corrected at each of the bits.
+    assert_eq!(seen.kinds.len(), 2 * 16, "{:?}", seen.kinds);
+    assert_eq!(seen.answers.len(), 2 * 2 * (3 + 72), "{:?}", seen.answers);
 }

@@ -19,8 +19,8 @@ cell-in-bank-requires c κs =
     let b = in-bank (setupIn f) (a .address) (x .result) (x .ensures .0) (c .if1 .taken) in
     omega (arith, b .size, few-bits (bank (setupIn f) (x .result .bank)) (bounded-in f (s .pre) (x .result .bank)))
 
-add-t7 : tie.Need-add-t7
-add-t7 c =
+add-k : tie.Need-add-k
+add-k c =
     let s = c .before .before .before .before .before in
     let a = s .args in
     let f = a .fields .now in
@@ -61,4 +61,4 @@ returns-3 c =
 
 pub cell-of-spec : {M : Type 1} → statement M
 cell-of-spec =
-    tie.close (tie.spec (λ c κs. search needs) cell-in-bank-requires add-t7 returns returns-2 returns-3)
+    tie.close (tie.spec (λ c κs. search needs) cell-in-bank-requires add-k (λ c. search needs) returns returns-2 returns-3)

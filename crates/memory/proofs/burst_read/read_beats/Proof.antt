@@ -1,28 +1,71 @@
+use Prim.Native.Nat.{ℕ, _-_, _%_}
+use native.Mathlib.Omega.{arith}
+use mathlib.Core.Path.{_≡_, refl}
+use mathlib.Core.List.{[], _∷_}
 use Rattle.registers.specs.Record.{recordOf}
+use Rattle.ecc.proofs.CellLaws.{lent-fits, fits-lent}
+use Rattle.ecc.proofs.ColumnLaws.{own-columns}
+use Rattle.memory.specs.CodeFetched.{lineSyndromes}
 use Rattle.memory.proofs.LineLaws.{end-is-last}
+use Rattle.memory.proofs.WholeLaws.{clean-line}
 use borrow.Author.Needs.{needs}
 use Rattle.memory.proofs.burst_read.read_beats.Statement.{statement}
 use Rattle.memory.proofs.burst_read.read_beats.Tie as tie
 
-is-clean-requires : tie.Need-is-clean-requires
-is-clean-requires c κs = let s = c .before .before in (s .pre .0, end-is-last (recordOf (s .args .registers .now)) (s .args .address) (s .args .last) (s .pre .1))
+sub-syndrome-at : tie.Need-sub-syndrome-at
+sub-syndrome-at c = let s = c .before .before .before in let h = end-is-last (recordOf (s .args .registers .now)) (s .args .address) (s .args .last) (s .pre .1) in omega arith
+
+syndrome-at-requires : tie.Need-syndrome-at-requires
+syndrome-at-requires c κs = let s = c .before .before .before in fits-lent (s .args .cells .now) (s .args .last - 3) (omega (arith, lent-fits (s .args .cells .now) (s .args .last) (s .pre .0)))
+
+sub-syndrome-at-2 : tie.Need-sub-syndrome-at-2
+sub-syndrome-at-2 c = let s = c .before .before .before .before .before in let h = end-is-last (recordOf (s .args .registers .now)) (s .args .address) (s .args .last) (s .pre .1) in omega arith
+
+syndrome-at-requires-2 : tie.Need-syndrome-at-requires-2
+syndrome-at-requires-2 c κs = let s = c .before .before .before .before .before in fits-lent (s .args .cells .now) (s .args .last - 2) (omega (arith, lent-fits (s .args .cells .now) (s .args .last) (s .pre .0)))
+
+sub-syndrome-at-3 : tie.Need-sub-syndrome-at-3
+sub-syndrome-at-3 c = let s = c .before .before .before .before .before .before .before in let h = end-is-last (recordOf (s .args .registers .now)) (s .args .address) (s .args .last) (s .pre .1) in omega arith
+
+syndrome-at-requires-3 : tie.Need-syndrome-at-requires-3
+syndrome-at-requires-3 c κs = let s = c .before .before .before .before .before .before .before in fits-lent (s .args .cells .now) (s .args .last - 1) (omega (arith, lent-fits (s .args .cells .now) (s .args .last) (s .pre .0)))
 
 copy-beats-requires : tie.Need-copy-beats-requires
 copy-beats-requires c κs =
-    let s = c .before .before .before .before .before in
-    (s .pre .0, end-is-last (recordOf (s .args .registers .now)) (s .args .address) (s .args .last) (s .pre .1), s .pre .2, s .pre .3, c .before .before .is-clean .ensures (c .before .if1 .taken))
+    let s = c .before .before .before .before .before .before .before .before .before .before .before .before in
+    let last = end-is-last (recordOf (s .args .registers .now)) (s .args .address) (s .args .last) (s .pre .1) in
+    let known : c .before .before .before .before .before .before .before .before .syndrome-at .result ∷ c .before .before .before .before .before .before .syndrome-at2 .result ∷ c .before .before .before .before .syndrome-at3 .result ∷ c .before .before .syndrome-at4 .result ∷ [] ≡ lineSyndromes (s .args .cells .now) (s .args .last) =
+    rw (rw own-columns at (c .before .before .before .before .before .before .before .before .syndrome-at .ensures), rw own-columns at (c .before .before .before .before .before .before .syndrome-at2 .ensures), rw own-columns at (c .before .before .before .before .syndrome-at3 .ensures), rw own-columns at (c .before .before .syndrome-at4 .ensures)) in
+    (s .pre .0, last, s .pre .2, s .pre .3, clean-line (s .args .cells .now) (s .args .last) last (c .before .before .before .before .before .before .before .before .syndrome-at .result) (c .before .before .before .before .before .before .syndrome-at2 .result) (c .before .before .before .before .syndrome-at3 .result) (c .before .before .syndrome-at4 .result) known (c .before .if1 .taken))
 
 returns : tie.Need-returns
-returns c = let s = c .before .before .before .before .before .before .before .before in c .before .before .copy-beats .ensures (recordOf (s .args .registers .now)) (s .pre .1)
+returns c = let s = c .before .before .before .before .before .before .before .before .before .before .before .before .before .before .before in c .before .before .copy-beats .ensures (recordOf (s .args .registers .now)) (s .pre .1)
+
+read-each-beat-requires : tie.Need-read-each-beat-requires
+read-each-beat-requires c κs =
+    let s = c .before .before .before .before .before .before .before .before .before .before .before .before .before in
+    let known : c .before .before .before .before .before .before .before .before .before .syndrome-at .result ∷ c .before .before .before .before .before .before .before .syndrome-at2 .result ∷ c .before .before .before .before .before .syndrome-at3 .result ∷ c .before .before .before .syndrome-at4 .result ∷ [] ≡ lineSyndromes (s .args .cells .now) (s .args .last) =
+    rw (rw own-columns at (c .before .before .before .before .before .before .before .before .before .syndrome-at .ensures), rw own-columns at (c .before .before .before .before .before .before .before .syndrome-at2 .ensures), rw own-columns at (c .before .before .before .before .before .syndrome-at3 .ensures), rw own-columns at (c .before .before .before .syndrome-at4 .ensures)) in
+    (s .pre .0, s .pre .1, known, s .pre .2, s .pre .3)
 
 pub read-beats-spec : {M : Type 1} → statement M
 read-beats-spec =
     tie.close
     (tie.spec
-    is-clean-requires
+    (λ c. search needs)
+    sub-syndrome-at
+    syndrome-at-requires
+    (λ c. search needs)
+    sub-syndrome-at-2
+    syndrome-at-requires-2
+    (λ c. search needs)
+    sub-syndrome-at-3
+    syndrome-at-requires-3
+    (λ c. search needs)
+    (λ c κs. c .before .before .before .before .before .before .before .before .before .pre .0)
     copy-beats-requires
     (λ c. search needs)
     returns
-    (λ c κs. search needs)
+    read-each-beat-requires
     (λ c. search needs)
     (λ c. c .before .before .read-each-beat .ensures))

@@ -1,41 +1,48 @@
 use native.Mathlib.Omega.{arith}
-use mathlib.Core.Path.{ap, _∙_}
-use mathlib.Core.List.{List, [], _∷_}
-use Prim.Native.Nat.{ℕ, _+_, _/_, _%_}
-use lib.ListN.{length-set}
-use Rattle.print.specs.CodePrinted.{atStart}
-use Rattle.print.proofs.PrintLaws.{start-sets, refused-one, refused-two}
+use mathlib.Core.Path.{_≡_, refl, _∙_}
+use mathlib.Core.List.{List, [], _∷_, _++_}
+use Prim.Native.Nat.{ℕ, _+_}
+use lib.ListN.{length, length-set}
+use lib.Seq.{length-sets}
+use Rattle.basics.proofs.ListLaws.{sets-append}
+use Rattle.print.specs.Digits.{decimal}
+use Rattle.print.specs.Output.{refusedText}
+use Rattle.print.proofs.PrintLaws.{line-sets}
 use borrow.Author.Needs.{needs}
 use Rattle.print.proofs.text.refused.Statement.{statement}
 use Rattle.print.proofs.text.refused.Tie as tie
 
+-- the bytes before the number
+abbrev start : ℕ → List ℕ
+start l = l ∷ 0x2C ∷ []
+
 slice-write-out-2 : tie.Need-slice-write-out-2
 slice-write-out-2 c = simp length-set (omega arith)
 
-slice-write-out-3 : tie.Need-slice-write-out-3
-slice-write-out-3 c = simp length-set (omega arith)
+write-decimal-requires : tie.Need-write-decimal-requires
+write-decimal-requires c κs = simp length-set (omega arith)
 
-slice-write-out-4 : tie.Need-slice-write-out-4
-slice-write-out-4 c = simp length-set (omega arith)
+slice-write-out-3 : tie.Need-slice-write-out-3
+slice-write-out-3 c =
+    let a = c .before .before .before .before .before .args in
+    let k = c .before .before .write-decimal in
+    let same : length (k .last .1 .0) ≡ length (a .out .now) = c .before .out .given ∙ length-sets (a .out .now) 0 (start (a .letter)) in
+    let few = k .ensures .2 in
+    omega arith
+
+same-length : tie.Need-same-length
+same-length c =
+    let a = c .before .before .before .before .before .args in
+    simp length-set (c .before .out .given ∙ length-sets (a .out .now) 0 (start (a .letter)))
 
 returns : tie.Need-returns
+unfolding refusedText
 returns c =
-    let a = c .before .args in
-    start-sets (a .letter ∷ 0x2C ∷ (0x30 + a .number) ∷ 0x0A ∷ []) (a .out .now) (omega arith) ∙ ap (λ (t : List ℕ). atStart t (a .out .now)) (refused-one (a .letter) (a .number) (c .if1 .taken))
-
-slice-write-out-5 : tie.Need-slice-write-out-5
-slice-write-out-5 c = simp length-set (omega arith)
-
-slice-write-out-6 : tie.Need-slice-write-out-6
-slice-write-out-6 c = simp length-set (omega arith)
-
-slice-write-out-7 : tie.Need-slice-write-out-7
-slice-write-out-7 c = simp length-set (omega arith)
-
-returns-2 : tie.Need-returns-2
-returns-2 c =
-    let a = c .before .args in
-    start-sets (a .letter ∷ 0x2C ∷ (0x30 + a .number / 10) ∷ (0x30 + a .number % 10) ∷ 0x0A ∷ []) (a .out .now) (omega arith) ∙ ap (λ (t : List ℕ). atStart t (a .out .now)) (refused-two (a .letter) (a .number) (c .if1 .left))
+    let a = c .before .before .before .before .before .args in
+    let k = c .before .before .write-decimal in
+    let t = decimal (a .number) in
+    let few = k .ensures .2 in
+    line-sets (a .out .now) (k .last .1 .0) (start (a .letter) ++ t) (0x0A ∷ []) (k .result) (k .result + 1) (omega (arith, k .ensures .0)) refl (k .ensures .1 ∙ sets-append (a .out .now) (start (a .letter)) t 0) (omega arith)
 
 pub refused-spec : {M : Type 1} → statement M
 refused-spec =
@@ -43,15 +50,8 @@ refused-spec =
     (tie.spec
     (λ c. search needs)
     slice-write-out-2
-    (λ c. search needs)
+    write-decimal-requires
     slice-write-out-3
-    slice-write-out-4
     (λ c. search needs)
-    returns
-    (λ c. search needs)
-    slice-write-out-5
-    (λ c. search needs)
-    slice-write-out-6
-    slice-write-out-7
-    (λ c. search needs)
-    returns-2)
+    same-length
+    returns)

@@ -1,69 +1,42 @@
-use Prim.Native.Nat.{ℕ, _*_, _-_, _≤_}
+use Prim.Native.Nat.{ℕ, _+_, _*_, _-_, _≤_}
 use native.Mathlib.Omega.{arith}
-use mathlib.Core.Path.{_≡_, refl, ap, _∙_}
-use lib.ListN.{length, take, length-set}
-use lib.Seq.{sets, length-take-le}
+use mathlib.Core.Path.{_≡_, refl, _∙_}
+use lib.ListN.{length, take, set, length-set}
 use borrow.Author.Needs.{needs}
-use Rattle.print.proofs.PrintLaws.{partsText, parts-next, parts-length, take-least, two-more, least-le}
+use Rattle.print.proofs.PrintLaws.{Written, part-written, take-least, least-le}
 use Rattle.print.proofs.text.write_kinds.Statement.{statement}
 use Rattle.print.proofs.text.write_kinds.Tie as tie
 
 abbrev Inv-loop : tie.InvT-loop
-Inv-loop count out₀ parts n i₀ out i = (i ≤ n) × (n ≤ 4) × (length out ≡ length out₀) × (out ≡ sets out₀ 3 (partsText (take i parts)))
+Inv-loop count out₀ parts n at₀ i₀ out at i =
+    (i ≤ n) × (n ≤ 4) × (length out ≡ length out₀) × (at ≤ 3 + 5 * i) × Written out₀ out 3 at parts i
 
 abbrev μ-loop : tie.MeasureT-loop
-μ-loop count out₀ parts n i₀ out i = n - i
-
-least-requires : tie.Need-least-requires Inv-loop μ-loop
-least-requires c κs = tt
+μ-loop count out₀ parts n at₀ i₀ out at i = n - i
 
 loop-holds : tie.Need-loop-holds Inv-loop μ-loop
-loop-holds c = (omega arith, least-le (c .before .before .args .count) 4 (c .least .result) (c .least .ensures) .1, refl, refl)
-
-mul-at : tie.Need-mul-at Inv-loop μ-loop
-mul-at c = omega arith
-
-add-at : tie.Need-add-at Inv-loop μ-loop
-add-at c = omega arith
-
-array-copy-out-part : tie.Need-array-copy-out-part Inv-loop μ-loop
-array-copy-out-part c = omega arith
-
-slice-write-out : tie.Need-slice-write-out Inv-loop μ-loop
-slice-write-out c = omega arith
-
-kind-letter-requires : tie.Need-kind-letter-requires Inv-loop μ-loop
-kind-letter-requires c κs = tt
-
-add-out : tie.Need-add-out Inv-loop μ-loop
-add-out c = omega arith
+loop-holds c = (omega arith, least-le (c .before .before .args .count) 4 (c .least .result) (c .least .ensures) .1, refl, omega arith, record { end = refl; bytes = refl })
 
 slice-write-out-2 : tie.Need-slice-write-out-2 Inv-loop μ-loop
 slice-write-out-2 c = simp length-set (omega arith)
 
-add-i : tie.Need-add-i Inv-loop μ-loop
-add-i c = omega arith
-
-loop-less : tie.Need-loop-less Inv-loop μ-loop
-loop-less c = omega arith
+write-bit-requires : tie.Need-write-bit-requires Inv-loop μ-loop
+write-bit-requires c κs = simp length-set (omega arith)
 
 loop-again : tie.Need-loop-again Inv-loop μ-loop
 loop-again c =
-    let at = c .before .before .before .loop in
-    let a = c .before .before .before .before .before .before .args in
+    let a = c .before .before .before .before .before .before .before .before .before .before .args in
+    let at = c .before .before .before .before .before .before .before .loop in
+    let k = c .before .before .write-bit in
+    let letter = c .before .before .before .before .kind-letter in
     let four : length (a .t1) ≡ 4 = search needs in
-    let l : length (partsText (take (at .i) (a .t1))) ≡ 2 * at .i = parts-length (take (at .i) (a .t1)) ∙ ap (λ (n : ℕ). 2 * n) (length-take-le (at .i) (a .t1) (omega arith)) in (
+    let few = k .ensures .2 in (
       omega arith,
       at .inv .1,
-      simp length-set (at .inv .2),
-      rw (at .inv .3) (two-more (a .out .now) (partsText (take (at .i) (a .t1))) _ 3 (at .i) 0x2C (c .kind-letter .result) l (parts-next (a .t1) (at .i) (c .kind-letter .result) _ (omega arith) (c .kind-letter .ensures))),
+      c .before .out .given ∙ length-set (set (at .out) (at .at) 0x2C) (at .at + 1) (letter .result) ∙ length-set (at .out) (at .at) 0x2C ∙ at .inv .2,
+      omega arith,
+      part-written (a .out .now) (at .out) (k .last .1 .0) 3 (at .at) (k .result) (a .t1) (at .i) _ (omega arith) (at .inv .4) (letter .result) (letter .ensures) (k .ensures .0) (k .ensures .1),
     )
-
-mul-result : tie.Need-mul-result Inv-loop μ-loop
-mul-result c = omega arith
-
-add-result : tie.Need-add-result Inv-loop μ-loop
-add-result c = omega arith
 
 same-length : tie.Need-same-length Inv-loop μ-loop
 same-length c = c .before .loop .inv .2
@@ -75,10 +48,8 @@ returns c =
     let n = c .before .before .least in
     let four : length (a .t1) ≡ 4 = search needs in
     let i : at .i ≡ n .result = omega arith in
-    let few = least-le (a .count) 4 (n .result) (n .ensures) in
-    let same : take (n .result) (a .t1) ≡ take (a .count) (a .t1) = take-least (a .count) (n .result) (a .t1) (rw four (n .ensures)) in
-    let l : length (partsText (take (n .result) (a .t1))) ≡ 2 * n .result = parts-length (take (n .result) (a .t1)) ∙ ap (λ (m : ℕ). 2 * m) (length-take-le (n .result) (a .t1) (omega arith)) in
-    (rw (← same) (omega arith), at .inv .3 ∙ rw (i, same), omega arith)
+    let same : take (at .i) (a .t1) ≡ take (a .count) (a .t1) = rw i (take-least (a .count) (n .result) (a .t1) (rw four (n .ensures))) in
+    (rw (← same) (at .inv .4 .end), rw (← same) (at .inv .4 .bytes), omega arith)
 
 pub write-kinds-spec : {M : Type 1} → statement M
 write-kinds-spec =
@@ -86,19 +57,18 @@ write-kinds-spec =
     (tie.spec
     Inv-loop
     μ-loop
-    least-requires
+    (λ c κs. tt)
     loop-holds
-    mul-at
-    add-at
-    array-copy-out-part
-    slice-write-out
-    kind-letter-requires
-    add-out
+    (λ c. omega arith)
+    (λ c. omega arith)
+    (λ c. omega arith)
+    (λ c κs. tt)
+    (λ c. omega arith)
     slice-write-out-2
-    add-i
-    loop-less
+    (λ c. omega arith)
+    write-bit-requires
+    (λ c. omega arith)
+    (λ c. omega arith)
     loop-again
-    mul-result
-    add-result
     same-length
     returns)

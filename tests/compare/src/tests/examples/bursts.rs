@@ -1,10 +1,10 @@
 //! Bursts with values worked out by hand (MEM-13 to MEM-16).
 
+use model::Answer::{self, Clean, Corrected, NoBank, Stored, Uncorrectable};
 use model::Call;
 
-use super::{Sides, FLIPPED};
-use crate::answers::{ACCEPTED, CLEAN, CORRECTED, NO_BANK, STORED, UNCORRECTABLE};
-use crate::request::{Given, Request};
+use super::sides::Sides;
+use crate::answers::ACCEPTED;
 
 /// Bank 0 is MB 0, and all its cells are lent.
 pub fn bursts() -> Result<String, String> {
@@ -34,12 +34,12 @@ fn bursts_of_a_line(sides: &mut Sides, line: u32) -> Result<(), String> {
         (16, [3, 4, 1, 2]),
         (24, [4, 1, 2, 3]),
     ] {
-        sides.burst_write(line + 8, [[0xEE; 8]; 4], STORED)?;
-        sides.burst_write(line + start, order.map(|byte| [byte; 8]), STORED)?;
+        sides.burst_write(line + 8, [[0xEE; 8]; 4], Stored)?;
+        sides.burst_write(line + start, order.map(|byte| [byte; 8]), Stored)?;
         for (address, byte) in (line..).step_by(8).zip(1..=4) {
-            sides.read(address, CLEAN, &[byte; 8])?;
+            sides.read(address, &[Clean], &[byte; 8])?;
         }
-        sides.burst_read(line + start, order.map(|byte| (CLEAN, [byte; 8])))?;
+        sides.burst_read(line + start, order.map(|byte| (Clean, [byte; 8])))?;
     }
     Ok(())
 }
@@ -47,29 +47,27 @@ fn bursts_of_a_line(sides: &mut Sides, line: u32) -> Result<(), String> {
 /// The first beat is the one whose address is stored.
 fn bursts_without_a_bank(sides: &mut Sides, start: u32) -> Result<(), String> {
     sides.set(0xC1, 0xFF, ACCEPTED)?;
-    sides.burst_read(start, [(NO_BANK, [0xFF; 8]); 4])?;
+    sides.burst_read(start, [(NoBank, [0xFF; 8]); 4])?;
     sides.get(0xC1, 0x20)?;
-    for (offset, byte) in (0xC8..).zip(start.to_le_bytes()) {
-        sides.get(offset, byte)?;
-    }
-    sides.burst_write(start, [[0; 8]; 4], NO_BANK)
+    sides.reported_address(start)?;
+    sides.burst_write(start, [[0; 8]; 4], NoBank)
 }
 
 /// From 18 on the beats are corrected, clean, uncorrectable and corrected. The
 /// third is the first to set a bit, and B8 reaches B9 with the fourth.
 fn reports_of_a_burst(sides: &mut Sides) -> Result<(), String> {
     sides.set(0xC1, 0xFF, ACCEPTED)?;
-    sides.burst_write(0, [[0; 8]; 4], STORED)?;
+    sides.burst_write(0, [[0; 8]; 4], Stored)?;
     for (address, bit) in [(0x18, 71), (0x08, 0), (0x08, 9), (0x10, 13)] {
-        sides.flip(address, bit, FLIPPED)?;
+        sides.flip(address, bit)?;
     }
     sides.burst_read(
         0x18,
         [
-            (CORRECTED, [0; 8]),
-            (CLEAN, [0; 8]),
-            (UNCORRECTABLE, [0x80, 0x40, 0, 0, 0, 0, 0, 0]),
-            (CORRECTED, [0; 8]),
+            (Corrected(71), [0; 8]),
+            (Clean, [0; 8]),
+            (Uncorrectable, [0x80, 0x40, 0, 0, 0, 0, 0, 0]),
+            (Corrected(13), [0; 8]),
         ],
     )?;
     for (offset, value) in [
@@ -85,25 +83,21 @@ fn reports_of_a_burst(sides: &mut Sides) -> Result<(), String> {
 }
 
 impl Sides {
-    /// A burst read that gives these ways and doublewords, beat by beat.
-    fn burst_read(&mut self, address: u32, beats: [(u32, [u8; 8]); 4]) -> Result<(), String> {
-        let ways = beats.map(|(way, _)| way);
+    /// A burst read that gives these answers and doublewords, beat by beat.
+    fn burst_read(&mut self, address: u32, beats: [(Answer, [u8; 8]); 4]) -> Result<(), String> {
+        let answers = beats.map(|(answer, _)| answer);
         let bytes = beats.map(|(_, bytes)| bytes).concat();
-        let request = Request::Listed(Call::BurstRead { address, count: 32 });
-        self.ask(&request, |given| {
-            has_beats(given, ways) && given.buffer.starts_with(&bytes)
-        })
+        self.answers(Call::BurstRead { address, count: 32 }, &answers, &bytes)
     }
 
-    /// A burst write of these doublewords that goes the same way at each beat.
-    fn burst_write(&mut self, address: u32, beats: [[u8; 8]; 4], way: u32) -> Result<(), String> {
+    /// A burst write of these doublewords that answers the same at each beat.
+    fn burst_write(
+        &mut self,
+        address: u32,
+        beats: [[u8; 8]; 4],
+        answer: Answer,
+    ) -> Result<(), String> {
         let bytes = beats.concat();
-        let request = Request::Listed(Call::BurstWrite { address, bytes });
-        self.ask(&request, |given| has_beats(given, [way; 4]))
+        self.answers(Call::BurstWrite { address, bytes }, &[answer; 4], &[])
     }
-}
-
-fn has_beats(given: &Given, ways: [u32; 4]) -> bool {
-    let [first, second, third, fourth] = ways.map(|way| way - ACCEPTED);
-    given.result == 0 && given.numbers == [4, first, second, third, fourth]
 }

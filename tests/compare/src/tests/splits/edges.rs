@@ -8,11 +8,12 @@ use model::record::{offset, SWITCH_ON};
 use model::{Call, Record};
 
 use super::{of_both, places_and_counts, read_and_write, record};
-use crate::case::{mixtures, ways, Case, Met};
+use crate::case::Case;
 use crate::coverage::Coverage;
 use crate::draw;
 use crate::lent;
 use crate::request::Request;
+use crate::ways::{mixtures, ways, Met};
 
 /// Two banks next to each other, each with its number and its first and last
 /// MB, in both orders of their numbers, which order their cells too. Where the

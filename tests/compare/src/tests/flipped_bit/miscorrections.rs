@@ -1,0 +1,85 @@
+//! Three inverted bits: if their columns make that of a fourth, it is named,
+//! though it was right (ECC-6); otherwise they are uncorrectable.
+
+use model::code::{COLUMNS, FLIP_BITS};
+use model::gen::Rng;
+use model::Answer::{self, Clean, Corrected, Uncorrectable};
+use model::Call;
+
+use super::{cell, Setup, PATTERNS};
+use crate::coverage::Coverage;
+use crate::ways::{ways, Met};
+
+/// How many of the 59,640 sets of three bits look like a single one.
+const LIKE_ONE: usize = 34_164;
+
+/// Each set of three bits: a read, a short write, a scrub, and as one access of
+/// a split and one beat of a burst.
+pub fn of_three_flips(rng: &mut Rng) -> Result<String, String> {
+    let mut coverage = Coverage::new();
+    let mut like_one = 0;
+    let setup = Setup::draw(rng);
+    for bits in sets_of_three() {
+        let answer = reading(bits);
+        like_one += usize::from(answer != Uncorrectable);
+        let pattern = rng.pick(&PATTERNS);
+        every_call(rng, &setup, &cell(pattern, &bits), answer, &mut coverage)?;
+    }
+    if like_one != LIKE_ONE {
+        return Err(format!("{like_one} sets look like one bit, not {LIKE_ONE}"));
+    }
+    let kinds = ["read", "write", "scrub"];
+    coverage.check(kinds.into_iter().flat_map(|kind| ways(kind, &[2, 3], &[])))?;
+    Ok(format!("{like_one} sets of three bits that look like one"))
+}
+
+fn sets_of_three() -> impl Iterator<Item = [u8; 3]> {
+    (0..FLIP_BITS).flat_map(|a| {
+        (a + 1..FLIP_BITS).flat_map(move |b| (b + 1..FLIP_BITS).map(move |c| [a, b, c]))
+    })
+}
+
+/// ECC-6, by a look through the columns.
+fn reading(bits: [u8; 3]) -> Answer {
+    let syndrome = bits
+        .iter()
+        .fold(0, |syndrome, &bit| syndrome ^ COLUMNS[usize::from(bit)]);
+    (0..)
+        .zip(COLUMNS)
+        .find(|&(_, column)| column == syndrome)
+        .map_or(Uncorrectable, |(bit, _)| Corrected(bit))
+}
+
+/// The cell stands second, between clean ones, where a call has several.
+fn every_call(
+    rng: &mut Rng,
+    setup: &Setup,
+    flipped: &[u8],
+    answer: Answer,
+    coverage: &mut Coverage<Met>,
+) -> Result<(), String> {
+    let clean = cell(rng.pick(&PATTERNS), &[]);
+    let line = [&clean, flipped, &clean, &clean].concat();
+    let next = setup.address + 8;
+    let read = Call::Read {
+        address: next,
+        count: 8,
+    };
+    let write = Call::Write {
+        address: next + 3,
+        bytes: rng.bytes(2),
+    };
+    let split = Call::Read {
+        address: next - 2,
+        count: 4,
+    };
+    let burst = Call::BurstRead {
+        address: setup.address,
+        count: 32,
+    };
+    setup.gives(&line, read, &[answer], coverage)?;
+    setup.gives(&line, write, &[answer], coverage)?;
+    setup.gives(&line, Call::Scrub { address: next }, &[answer], coverage)?;
+    setup.gives(&line, split, &[Clean, answer], coverage)?;
+    setup.gives(&line, burst, &[Clean, answer, Clean, Clean], coverage)
+}
