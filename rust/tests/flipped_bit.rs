@@ -26,7 +26,7 @@ fn line_of(pattern: [u8; 8]) -> Memory {
     memory
 }
 
-/// The same with one bit of each of these doublewords inverted.
+/// The same with these bits of its doublewords inverted.
 fn flipped(pattern: [u8; 8], flips: &[(u32, u8)]) -> Memory {
     let mut memory = line_of(pattern);
     for &(address, bit) in flips {

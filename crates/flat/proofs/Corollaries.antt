@@ -12,7 +12,6 @@ use Rattle.refusals.specs.Paper.{Declined, refused, given}
 use Rattle.registers.specs.declared.Registers.{Registers}
 use Rattle.banks.specs.Setup.{setupOf}
 use Rattle.banks.specs.Map.{cellCount}
-use Rattle.banks.proofs.MapLaws.{isSome}
 use Rattle.ecc.specs.Columns.{accepted}
 use Rattle.calls.specs.declared.Kind.{Kind}
 use Rattle.calls.specs.declared.Kind.the-variants.{Clean, Corrected, Uncorrectable, Stored, NoBank, Flipped}

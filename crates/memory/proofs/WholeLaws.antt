@@ -1,7 +1,7 @@
 -- Accesses to all eight bytes of a doubleword.
 use Prim.Native.Nat.{ℕ, _+_, _-_, _/_, _%_, _≤_}
 use mathlib.Core.Path.{_≡_, sym, ap, _∙_}
-use mathlib.Core.Bool.{true, _&&_}
+use mathlib.Core.Bool.{true, false, _&&_}
 use mathlib.Core.Option.{some}
 use mathlib.Core.List.{List, [], _∷_}
 use native.Mathlib.Omega.{arith}
@@ -13,11 +13,12 @@ use Rattle.basics.proofs.Bools.{and-left, and-right}
 use Rattle.basics.proofs.RangeLaws.{byCases}
 use Rattle.registers.specs.declared.Registers.{Registers}
 use Rattle.eight_bytes.specs.CodeNumber.{bytesIn, eightAt}
-use Rattle.ecc.specs.Columns.{columns}
+use Rattle.ecc.specs.Columns.{columns, columnsFor}
 use Rattle.ecc.specs.CheckCode.{syndromeOf}
 use Rattle.ecc.specs.Cell.{encode}
 use Rattle.ecc.specs.Doubleword.{bytesOfNumber}
 use Rattle.ecc.specs.Lending.{cellAt, putCell}
+use Rattle.ecc.proofs.ColumnLaws.{own-columns}
 use Rattle.ecc.proofs.DoublewordLaws.{number-length}
 use Rattle.calls.specs.declared.Kind.the-variants.{Clean, Stored}
 use Rattle.calls.specs.Calls.{readIn, writeIn, Got, got}
@@ -61,6 +62,12 @@ module _ (cells : List ℕ) (k : ℕ) (last : k % 4 ≡ 3) where
       (let i : (k - 2) % 4 ≡ 1 = omega arith in rw i)
       (let i : (k - 1) % 4 ≡ 2 = omega arith in rw i)
       (rw last) a
+
+  -- the syndromes as the code computes them, with no columns lent
+  pub line-known : {s₀ s₁ s₂ s₃ : ℕ} → s₀ ≡ syndromeOf (columnsFor false []) (cellAt cells (k - 3)) → s₁ ≡ syndromeOf (columnsFor false []) (cellAt cells (k - 2))
+      → s₂ ≡ syndromeOf (columnsFor false []) (cellAt cells (k - 1)) → s₃ ≡ syndromeOf (columnsFor false []) (cellAt cells k)
+      → s₀ ∷ s₁ ∷ s₂ ∷ s₃ ∷ [] ≡ lineSyndromes cells k
+  line-known e₀ e₁ e₂ e₃ = rw (e₀, e₁, e₂, e₃, own-columns)
 
   -- four clean cells are a clean line
   pub clean-line : (s₀ s₁ s₂ s₃ : ℕ) → s₀ ∷ s₁ ∷ s₂ ∷ s₃ ∷ [] ≡ lineSyndromes cells k → ((eqb s₀ 0 && eqb s₁ 0) && (eqb s₂ 0 && eqb s₃ 0)) ≡ true

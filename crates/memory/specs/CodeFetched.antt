@@ -15,18 +15,18 @@ use Rattle.calls.specs.declared.Kind.the-variants.{Clean, Corrected, Uncorrecta
 use Rattle.machine.specs.Cells.{answerOf}
 use Rattle.memory.specs.declared.fetch.Fetched.{Fetched}
 
--- the cells k and l are lent, and their syndromes are 0
-pub record CleanPair (cells : List ℕ) (k l : ℕ) : Type 0 where
-  pub first-lent : isLent cells k ≡ true
-  pub first-clean : syndromeOf columns (cellAt cells k) ≡ 0
-  pub second-lent : isLent cells l ≡ true
-  pub second-clean : syndromeOf columns (cellAt cells l) ≡ 0
-
 -- the syndrome of cell k
 abbrev pub syndromeAt : List ℕ → ℕ → ℕ
 syndromeAt cells k = syndromeOf columns (cellAt cells k)
 
--- those of the cells of a cache line, by the last of them
+-- the cells k and l are lent, and their syndromes are 0
+pub record CleanPair (cells : List ℕ) (k l : ℕ) : Type 0 where
+  pub first-lent : isLent cells k ≡ true
+  pub first-clean : syndromeAt cells k ≡ 0
+  pub second-lent : isLent cells l ≡ true
+  pub second-clean : syndromeAt cells l ≡ 0
+
+-- the syndromes of the cells of a cache line, by the last of them
 abbrev pub lineSyndromes : List ℕ → ℕ → List ℕ
 lineSyndromes cells k = syndromeAt cells (k - 3) ∷ syndromeAt cells (k - 2) ∷ syndromeAt cells (k - 1) ∷ syndromeAt cells k ∷ []
 

@@ -11,7 +11,6 @@ ghost use Rattle.registers.specs.Record.{recordOf};
 ghost use Rattle.banks.specs.Setup.{setupOf};
 ghost use Rattle.banks.specs.Map.{cellOf};
 ghost use Rattle.ecc.specs.Columns.{columns};
-ghost use Rattle.ecc.specs.CheckCode.{syndromeOf};
 ghost use Rattle.ecc.specs.Doubleword.{bytesOfNumber};
 ghost use Rattle.ecc.specs.Lending.{cellAt, isLent};
 ghost use Rattle.calls.specs.Calls.{beatAddress, readIn, burstRead, parts, got};
@@ -19,7 +18,7 @@ ghost use Rattle.calls.specs.State.{state};
 ghost use Rattle.calls.specs.Answers.{leaves, effectOf};
 ghost use Rattle.machine.specs.Calls.{accessAt, performed, burstReadCall};
 ghost use Rattle.cache_line.specs.CodeLine.{lastDoubleword, cellInLine};
-ghost use Rattle.memory.specs.CodeFetched.{lineSyndromes};
+ghost use Rattle.memory.specs.CodeFetched.{syndromeAt, lineSyndromes};
 use crate::access;
 use crate::access::LENT;
 use crate::access::NO_COLUMNS;
@@ -40,7 +39,8 @@ use calls::Kind;
 use targets::Judged;
 use targets::judge;
 
-// Beat i of a burst read at `address`; `last` is the last cell of the line.
+// Beat i of a burst read at `address`; `last` is the last cell of the line, and the syndromes are those of its cells, in their order. Cell k is the one at
+// place k % 4, since the cells of a line begin at a multiple of 4.
 fn read_beat(
     registers: &mut [u8; 256],
     cells: &[u8],
@@ -67,7 +67,7 @@ fn beat_at(cells: &[u8], last: usize, address: u32, i: u32) -> u64
 
 // A burst read of clean cells: none of its answers is reported (ERR-8).
 fn copy_beats(cells: &[u8], last: usize, address: u32, buffer: &mut [u8]) -> Answer
-    requires { ⌜ (isLent (now cells) last ≡ true) × (last % 4 ≡ 3) × (address % 8 ≡ 0) × (length (now buffer) ≡ 32) × ((a : ℕ) → syndromeOf columns (cellAt (now cells) (cellInLine a last)) ≡ 0) ⌝ }
+    requires { ⌜ (isLent (now cells) last ≡ true) × (last % 4 ≡ 3) × (address % 8 ≡ 0) × (length (now buffer) ≡ 32) × ((a : ℕ) → syndromeAt (now cells) (cellInLine a last) ≡ 0) ⌝ }
     ensures { λ x. ⌜ ((r : Registers) → cellOf (setupOf r) (lastDoubleword address) ≡ some last → leaves x (state r (now (cells .entry))) (now (buffer .exit)) ≡ effectOf (performed columns none (state r (now (cells .entry))) (parts (burstRead address 32))) []) ⌝ }
 {
     let first = beat_at(cells, last, address, 0);
@@ -78,7 +78,7 @@ fn copy_beats(cells: &[u8], last: usize, address: u32, buffer: &mut [u8]) -> Ans
     answer(Kind::Clean, Kind::Clean, Kind::Clean, Kind::Clean)
 }
 
-// A burst read, beat by beat; the syndromes are those of the cells of the line, in their order.
+// A burst read, beat by beat, by the syndromes of the line's cells.
 fn read_each_beat(
     registers: &mut [u8; 256],
     cells: &[u8],

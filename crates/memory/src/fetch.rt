@@ -4,13 +4,11 @@ ghost use mathlib.Core.Path.{_≡_};
 ghost use mathlib.Core.Bool.{true};
 ghost use mathlib.Core.Option.{some};
 ghost use Rattle.registers.specs.Record.{recordOf};
-ghost use Rattle.ecc.specs.Columns.{columns};
-ghost use Rattle.ecc.specs.CheckCode.{syndromeOf};
-ghost use Rattle.ecc.specs.Lending.{cellAt, isLent};
+ghost use Rattle.ecc.specs.Lending.{isLent};
 ghost use Rattle.error_registers.specs.Errors.{reported};
 ghost use Rattle.targets.specs.Targets.{targetOf};
 ghost use Rattle.targets.specs.CodeTargets.{LentAt};
-ghost use Rattle.memory.specs.CodeFetched.{Fetches, isRight};
+ghost use Rattle.memory.specs.CodeFetched.{syndromeAt, Fetches, isRight};
 use crate::access;
 use crate::access::LENT;
 use crate::access::NO_COLUMNS;
@@ -28,7 +26,7 @@ pub struct Fetched {
 
 // Reads cell k, whose syndrome s is not 0, at an address.
 fn fetch_wrong(registers: &mut [u8; 256], cells: &[u8], k: usize, s: u8, address: u32) -> Fetched
-    requires { ⌜ (isLent (now cells) k ≡ true) × (s ≡ syndromeOf columns (cellAt (now cells) k)) ⌝ }
+    requires { ⌜ (isLent (now cells) k ≡ true) × (s ≡ syndromeAt (now cells) k) ⌝ }
     ensures { λ f. ⌜ Fetches (some k) (now (cells .entry)) f ⌝ }
     ensures { λ f. ⌜ recordOf (now (registers .exit)) ≡ reported (f .kind) address (recordOf (now (registers .entry))) ⌝ }
 {
@@ -50,7 +48,7 @@ pub(crate) fn fetch(
     s: u8,
     address: u32,
 ) -> Fetched
-    requires { ⌜ (isLent (now cells) k ≡ true) × (s ≡ syndromeOf columns (cellAt (now cells) k)) ⌝ }
+    requires { ⌜ (isLent (now cells) k ≡ true) × (s ≡ syndromeAt (now cells) k) ⌝ }
     ensures { λ f. ⌜ Fetches (some k) (now (cells .entry)) f ⌝ }
     ensures { λ f. ⌜ recordOf (now (registers .exit)) ≡ reported (f .kind) address (recordOf (now (registers .entry))) ⌝ }
 {

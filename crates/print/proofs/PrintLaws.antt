@@ -15,7 +15,6 @@ use Rattle.refusals.specs.declared.Refusal.the-variants.{MalformedLine}
 use Rattle.refusals.specs.declared.Verdict.{Verdict}
 use Rattle.refusals.specs.declared.Verdict.the-variants.{Accepted, Refused}
 use Rattle.refusals.specs.Paper.{Declined, paperVerdict}
-use Rattle.calls.specs.declared.Kind.{Kind}
 use Rattle.calls.specs.declared.Part.{Part}
 use Rattle.calls.specs.declared.Answer.{Answer}
 use Rattle.calls.specs.Calls.{read, write, flip, scrub}
@@ -64,7 +63,7 @@ pairs-next bytes i x y h e f =
 
 -- ---- the answers of accesses
 
-abbrev pub partsText : List Part → List ℕ
+abbrev partsText : List Part → List ℕ
 partsText ps = kindsText (kindsIn ps)
 
 parts-append : (ps qs : List Part) → partsText (ps ++ qs) ≡ partsText ps ++ partsText qs

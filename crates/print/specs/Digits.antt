@@ -17,6 +17,6 @@ abbrev pub hexPairs : List ℕ → List ℕ
 hexPairs [] = []
 hexPairs (b ∷ bs) = hexPair b ++ hexPairs bs
 
--- LINE-12: a number below 100 in decimal
+-- LINE-12, LINE-14: a number below 100 in decimal
 unfoldable pub decimal : ℕ → List ℕ
 decimal n = cond (ltb n 10) ((0x30 + n) ∷ []) ((0x30 + n / 10) ∷ (0x30 + n % 10) ∷ [])

@@ -48,15 +48,6 @@ kindLetter Stored = 0x70
 kindLetter NoBank = 0x65
 kindLetter Flipped = 0x66
 
--- LINE-4 to LINE-6: the letter of a memory call. No line asks for a burst, so that of a burst is never printed
-abbrev pub letterOf : MemoryCall → ℕ
-letterOf (read a n) = 0x72
-letterOf (write a bs) = 0x77
-letterOf (flip a b) = 0x66
-letterOf (scrub a) = 0x73
-letterOf (burstRead a n) = 0x72
-letterOf (burstWrite a bs) = 0x77
-
 -- LINE-14, MEM-19: the field behind that letter: the flip bit of "corrected", in decimal
 unfoldable pub bitText : Kind → List ℕ
 bitText Clean = []
@@ -69,6 +60,15 @@ bitText Flipped = []
 -- LINE-14: the answer of one access
 abbrev pub kindText : Kind → List ℕ
 kindText k = 0x2C ∷ kindLetter k ∷ bitText k
+
+-- LINE-4 to LINE-6: the letter of a memory call. No line asks for a burst, so that of a burst is never printed
+abbrev pub letterOf : MemoryCall → ℕ
+letterOf (read a n) = 0x72
+letterOf (write a bs) = 0x77
+letterOf (flip a b) = 0x66
+letterOf (scrub a) = 0x73
+letterOf (burstRead a n) = 0x72
+letterOf (burstWrite a bs) = 0x77
 
 -- LINE-14: the answer of each access of a call, in order
 abbrev pub kindsText : List Kind → List ℕ

@@ -27,22 +27,22 @@ one-part (p ∷ ps) h = refl
 
 -- ---- the parts put one after the other
 
--- the numbers of the parts, and n in front of them
-abbrev pub numbersAfter : ℕ → List Kind → List ℕ
-numbersAfter n ks = n ∷ partAt ks 0 ∷ partAt ks 1 ∷ partAt ks 2 ∷ partAt ks 3 ∷ []
+-- the numbers of the parts, before their count is put in front of them
+abbrev pub uncounted : List Kind → List ℕ
+uncounted ks = 0 ∷ partAt ks 0 ∷ partAt ks 1 ∷ partAt ks 2 ∷ partAt ks 3 ∷ []
 
-pub next-part : (ps : List Part) (n i : ℕ) → length ps ≡ 4 → i < 4
-    → set (numbersAfter n (kindsIn (take i ps))) (suc i) (partAt (kindsIn ps) i) ≡ numbersAfter n (kindsIn (take (suc i) ps))
-next-part (p ∷ q ∷ r ∷ s ∷ []) n zero h k = refl
-next-part (p ∷ q ∷ r ∷ s ∷ []) n (suc zero) h k = refl
-next-part (p ∷ q ∷ r ∷ s ∷ []) n (suc (suc zero)) h k = refl
-next-part (p ∷ q ∷ r ∷ s ∷ []) n (suc (suc (suc zero))) h k = refl
-next-part (p ∷ q ∷ r ∷ s ∷ []) n (suc (suc (suc (suc i)))) h k = absurd (omega arith)
-next-part [] n i h k = absurd (omega arith)
-next-part (p ∷ []) n i h k = absurd (omega arith)
-next-part (p ∷ q ∷ []) n i h k = absurd (omega arith)
-next-part (p ∷ q ∷ r ∷ []) n i h k = absurd (omega arith)
-next-part (p ∷ q ∷ r ∷ s ∷ t ∷ ps) n i h k = absurd (omega arith)
+pub next-part : (ps : List Part) (i : ℕ) → length ps ≡ 4 → i < 4
+    → set (uncounted (kindsIn (take i ps))) (suc i) (partAt (kindsIn ps) i) ≡ uncounted (kindsIn (take (suc i) ps))
+next-part (p ∷ q ∷ r ∷ s ∷ []) zero h k = refl
+next-part (p ∷ q ∷ r ∷ s ∷ []) (suc zero) h k = refl
+next-part (p ∷ q ∷ r ∷ s ∷ []) (suc (suc zero)) h k = refl
+next-part (p ∷ q ∷ r ∷ s ∷ []) (suc (suc (suc zero))) h k = refl
+next-part (p ∷ q ∷ r ∷ s ∷ []) (suc (suc (suc (suc i)))) h k = absurd (omega arith)
+next-part [] i h k = absurd (omega arith)
+next-part (p ∷ []) i h k = absurd (omega arith)
+next-part (p ∷ q ∷ []) i h k = absurd (omega arith)
+next-part (p ∷ q ∷ r ∷ []) i h k = absurd (omega arith)
+next-part (p ∷ q ∷ r ∷ s ∷ t ∷ ps) i h k = absurd (omega arith)
 
 kinds-length : (ps : List Part) → length (kindsIn ps) ≡ length ps
 kinds-length [] = refl

@@ -1,15 +1,15 @@
-use Prim.Native.Nat.{ℕ, suc, _+_, _-_, _≤_}
+use Prim.Native.Nat.{suc, _+_, _-_, _≤_}
 use native.Mathlib.Omega.{arith}
 use mathlib.Core.Path.{_≡_, refl}
 use lib.ListN.{length, take}
 use borrow.Author.Needs.{needs}
 use Rattle.calls.specs.Answers.{kindsIn}
-use Rattle.results.proofs.PartLaws.{one-part, numbersAfter, next-part, few, is-next, none-next}
+use Rattle.results.proofs.PartLaws.{one-part, uncounted, next-part, few, is-next, none-next}
 use Rattle.results.proofs.put_parts.Statement.{statement}
 use Rattle.results.proofs.put_parts.Tie as tie
 
 abbrev Inv-loop : tie.InvT-loop
-Inv-loop count parts answer₀ i₀ answer i = (i ≤ 4) × (i ≤ count) × (answer ≡ numbersAfter 0 (kindsIn (take i parts)))
+Inv-loop count parts answer₀ i₀ answer i = (i ≤ 4) × (i ≤ count) × (answer ≡ uncounted (kindsIn (take i parts)))
 
 abbrev μ-loop : tie.MeasureT-loop
 μ-loop count parts answer₀ i₀ answer i = 4 - i
@@ -39,7 +39,7 @@ loop-again c =
     let four : length (a .parts) ≡ 4 = search needs in
     let h = is-next (at .i) _ _ (c .before .loop-test .taken) in
     let s : at .i + 1 ≡ suc (at .i) = omega arith in
-    (omega arith, omega arith, rw (s, at .inv .2, c .part-at2 .ensures) (next-part (a .parts) 0 (at .i) four (omega arith)))
+    (omega arith, omega arith, rw (s, at .inv .2, c .part-at2 .ensures) (next-part (a .parts) (at .i) four (omega arith)))
 
 returns-2 : tie.Need-returns-2 Inv-loop μ-loop
 returns-2 c =

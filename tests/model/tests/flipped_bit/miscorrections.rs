@@ -125,8 +125,7 @@ fn every_three_flips() {
             }
         }
     }
-    assert_eq!(kinds[0] + kinds[1], 72 * 71 * 70 / 6);
-    assert!(kinds.iter().all(|&count| count > 20_000), "{kinds:?}");
+    assert_eq!(kinds, [25_476, 34_164]);
 }
 
 /// Checks the answer to three wrong bits. True if they look like a single one.

@@ -1,13 +1,9 @@
-use Prim.Native.Nat.{ℕ, _-_, _%_}
+use Prim.Native.Nat.{_-_}
 use native.Mathlib.Omega.{arith}
-use mathlib.Core.Path.{_≡_, refl}
-use mathlib.Core.List.{[], _∷_}
 use Rattle.registers.specs.Record.{recordOf}
 use Rattle.ecc.proofs.CellLaws.{lent-fits, fits-lent}
-use Rattle.ecc.proofs.ColumnLaws.{own-columns}
-use Rattle.memory.specs.CodeFetched.{lineSyndromes}
 use Rattle.memory.proofs.LineLaws.{end-is-last}
-use Rattle.memory.proofs.WholeLaws.{clean-line}
+use Rattle.memory.proofs.WholeLaws.{line-known, clean-line}
 use borrow.Author.Needs.{needs}
 use Rattle.memory.proofs.burst_read.read_beats.Statement.{statement}
 use Rattle.memory.proofs.burst_read.read_beats.Tie as tie
@@ -34,9 +30,8 @@ copy-beats-requires : tie.Need-copy-beats-requires
 copy-beats-requires c κs =
     let s = c .before .before .before .before .before .before .before .before .before .before .before .before in
     let last = end-is-last (recordOf (s .args .registers .now)) (s .args .address) (s .args .last) (s .pre .1) in
-    let known : c .before .before .before .before .before .before .before .before .syndrome-at .result ∷ c .before .before .before .before .before .before .syndrome-at2 .result ∷ c .before .before .before .before .syndrome-at3 .result ∷ c .before .before .syndrome-at4 .result ∷ [] ≡ lineSyndromes (s .args .cells .now) (s .args .last) =
-    rw (rw own-columns at (c .before .before .before .before .before .before .before .before .syndrome-at .ensures), rw own-columns at (c .before .before .before .before .before .before .syndrome-at2 .ensures), rw own-columns at (c .before .before .before .before .syndrome-at3 .ensures), rw own-columns at (c .before .before .syndrome-at4 .ensures)) in
-    (s .pre .0, last, s .pre .2, s .pre .3, clean-line (s .args .cells .now) (s .args .last) last (c .before .before .before .before .before .before .before .before .syndrome-at .result) (c .before .before .before .before .before .before .syndrome-at2 .result) (c .before .before .before .before .syndrome-at3 .result) (c .before .before .syndrome-at4 .result) known (c .before .if1 .taken))
+    let known = line-known (s .args .cells .now) (s .args .last) last (c .before .before .before .before .before .before .before .before .syndrome-at .ensures) (c .before .before .before .before .before .before .syndrome-at2 .ensures) (c .before .before .before .before .syndrome-at3 .ensures) (c .before .before .syndrome-at4 .ensures) in
+    (s .pre .0, last, s .pre .2, s .pre .3, clean-line (s .args .cells .now) (s .args .last) last _ _ _ _ known (c .before .if1 .taken))
 
 returns : tie.Need-returns
 returns c = let s = c .before .before .before .before .before .before .before .before .before .before .before .before .before .before .before in c .before .before .copy-beats .ensures (recordOf (s .args .registers .now)) (s .pre .1)
@@ -44,8 +39,8 @@ returns c = let s = c .before .before .before .before .before .before .before .b
 read-each-beat-requires : tie.Need-read-each-beat-requires
 read-each-beat-requires c κs =
     let s = c .before .before .before .before .before .before .before .before .before .before .before .before .before in
-    let known : c .before .before .before .before .before .before .before .before .before .syndrome-at .result ∷ c .before .before .before .before .before .before .before .syndrome-at2 .result ∷ c .before .before .before .before .before .syndrome-at3 .result ∷ c .before .before .before .syndrome-at4 .result ∷ [] ≡ lineSyndromes (s .args .cells .now) (s .args .last) =
-    rw (rw own-columns at (c .before .before .before .before .before .before .before .before .before .syndrome-at .ensures), rw own-columns at (c .before .before .before .before .before .before .before .syndrome-at2 .ensures), rw own-columns at (c .before .before .before .before .before .syndrome-at3 .ensures), rw own-columns at (c .before .before .before .syndrome-at4 .ensures)) in
+    let last = end-is-last (recordOf (s .args .registers .now)) (s .args .address) (s .args .last) (s .pre .1) in
+    let known = line-known (s .args .cells .now) (s .args .last) last (c .before .before .before .before .before .before .before .before .before .syndrome-at .ensures) (c .before .before .before .before .before .before .before .syndrome-at2 .ensures) (c .before .before .before .before .before .syndrome-at3 .ensures) (c .before .before .before .syndrome-at4 .ensures) in
     (s .pre .0, s .pre .1, known, s .pre .2, s .pre .3)
 
 pub read-beats-spec : {M : Type 1} → statement M

@@ -1,7 +1,7 @@
 use native.Mathlib.Omega.{arith}
 use mathlib.Core.Path.{_≡_, refl, _∙_}
 use Prim.Native.Nat.{suc, _+_}
-use lib.ListN.{length, length-set}
+use lib.ListN.{length-set}
 use Rattle.print.specs.Output.{bitText}
 use borrow.Author.Needs.{needs}
 use Rattle.print.proofs.text.write_bit.Statement.{statement}
