@@ -58,7 +58,8 @@ pub enum Mapping {
     At(Place),
 }
 
-// MAP-6: the cell in which an address is kept.
+// MAP-6: the cell in which an address is kept. Its number is below 2^32; with 32 bits it would share one machine word with its case, and each call
+// would have to take the two apart.
 pub enum Target {
     NotReady,
     NoBank,

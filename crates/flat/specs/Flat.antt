@@ -21,7 +21,7 @@ pub record Flat : Type 0 where
 unfoldable pub blank : Flat
 blank = record { byte = λ a. 0; mark = λ q. none }
 
--- FLAT-2, FLAT-3: clean, or corrected at the bit that the mark remembers
+-- FLAT-2 to FLAT-4: clean, or corrected at the bit that the mark remembers
 abbrev pub byMark : Option ℕ → Kind
 byMark none = Clean
 byMark (some b) = Corrected b

@@ -39,8 +39,8 @@ use calls::Kind;
 use targets::Judged;
 use targets::judge;
 
-// Beat i of a burst read at `address`; `last` is the last cell of the line, and the syndromes are those of its cells, in their order. Cell k is the one at
-// place k % 4, since the cells of a line begin at a multiple of 4.
+// Beat i of a burst read at `address`; `last` is the last cell of the line, and the syndromes are those of its cells, in their order. That of cell k is
+// at place k % 4, since the cells of a line begin at a multiple of 4.
 fn read_beat(
     registers: &mut [u8; 256],
     cells: &[u8],
