@@ -1,14 +1,16 @@
 -- The folded check byte is the check byte under the columns of ECC-2: both respect the exclusive-or, and they agree on every doubleword with just
 -- one bit set, which is shown by computation.
-use mathlib.Core.Path.{_≡_, refl, ap, ap₂, _∙_}
+use mathlib.Core.Path.{_≡_, refl, sym, ap, ap₂, _∙_, subst}
 use mathlib.Core.Bool.{true}
 use mathlib.Core.List.{List}
-use Prim.Native.Nat.{ℕ, zero, suc, _-_, _*_, _/_, _%_, _^_, _<_}
+use Prim.Native.Nat.{ℕ, zero, suc, _+_, _-_, _*_, _/_, _%_, _^_, _<_}
+use native.Mathlib.Nat.{mod-eq-of-lt, lt-of-le-of-lt}
 use native.Mathlib.Omega.{arith}
 use borrow.Author.Tests.{eqb-true}
-use lib.Bits.{bitAnd, bitXor}
+use lib.Bits.{bitAnd, bitOr, bitXor, and-mod, and-shifted, or-disjoint, xor-disjoint}
 use lib.Dec.{eqb}
 use lib.ListN.{getD}
+use lib.Pow.{shr-lt, shr-le}
 use Rattle.basics.specs.Range.{every}
 use Rattle.basics.proofs.RangeLaws.{every-at}
 use Rattle.basics.proofs.XorLaws.{xor-four}
@@ -16,7 +18,7 @@ use Rattle.basics.proofs.LinearLaws.{Linear, linear-self, linear-and, linear-sh
 use Rattle.ecc.specs.Columns.{columns}
 use Rattle.ecc.specs.CheckCode.{bitAt, dataBit, taken, xorOf, checkOf}
 use Rattle.ecc.specs.Doubleword.{bytesOfNumber}
-use Rattle.check_byte.specs.CodeFold.{rotated, masked, folded, overShifted, foldedMasks, parities, gathered, foldedCheck}
+use Rattle.check_byte.specs.CodeFold.{rotated, masked, folded, overShifted, foldedMasks, laidOver, foldedCheck}
 use Rattle.ecc.proofs.BitLaws.{bit-xor, taken-xor}
 use Rattle.ecc.proofs.DoublewordLaws.{number-at}
 use Rattle.ecc.proofs.FlipLaws.{data-lt}
@@ -48,12 +50,21 @@ check-linear cols x y =
     (λ i l. ap (λ (z : ℕ). bitAt z (7 - i % 8)) (byte-linear (i / 8) (omega arith) x y)
     ∙ bit-xor (getD (bytesOfNumber x) (i / 8) 0) (getD (bytesOfNumber y) (i / 8) 0) (7 - i % 8))
 
--- ---- the folds
+-- ---- the two parts of a rotation
 
-module _ (f g : ℕ → ℕ) (lf : Linear f) (lg : Linear g) where
-  masked-linear : (k l : ℕ) → Linear (λ x. masked (f x) (g x) k l)
-  unfolding masked
-  masked-linear k l = linear-xor (λ x. bitAnd (f x) k) (λ x. bitAnd (g x) l) (linear-and f lf k) (linear-and g lg l)
+-- no bit is set in both, so that `|` joins them as `^` does
+pub rotated-or : (x n : ℕ) → n < 64 → x < 2 ^ 64 → bitOr (x * 2 ^ n % 2 ^ 64) (x / 2 ^ (64 - n)) ≡ rotated x n
+unfolding rotated
+rotated-or x n h whole =
+    let up : ℕ = x * 2 ^ n % 2 ^ 64 in
+    let down : ℕ = x / 2 ^ (64 - n) in
+    let bits : 64 ≡ n + (64 - n) = omega arith in
+    let low : down < 2 ^ n = shr-lt n (64 - n) (subst (λ (j : ℕ). x < 2 ^ j) bits whole) in
+    let same : down % 2 ^ 64 ≡ down = mod-eq-of-lt (lt-of-le-of-lt (shr-le x (64 - n)) whole) in
+    let apart : bitAnd up down ≡ 0 = ap (bitAnd up) (sym same) ∙ sym (and-mod (x * 2 ^ n) down 64) ∙ ap (λ (z : ℕ). z % 2 ^ 64) (and-shifted x n down low) in
+    or-disjoint up down apart ∙ sym (xor-disjoint up down apart)
+
+-- ---- the folds
 
 rotated-linear : (f : ℕ → ℕ) → Linear f → (n : ℕ) → Linear (λ x. rotated (f x) n)
 unfolding rotated
@@ -64,54 +75,39 @@ shifted-linear : (f : ℕ → ℕ) → Linear f → (n : ℕ) → Linear (λ x. 
 unfolding overShifted
 shifted-linear f lf n = linear-xor f (λ x. f x / 2 ^ n) lf (linear-shr f lf n)
 
-module _ (f g : ℕ → ℕ) (lf : Linear f) (lg : Linear g) (s n : ℕ) where
-  w : ℕ → ℕ
-  w x = bitAnd (bitXor (f x) (g x)) s
+module _ (f g : ℕ → ℕ) (lf : Linear f) (lg : Linear g) where
+  masked-linear : (k l : ℕ) → Linear (λ x. masked (f x) (g x) k l)
+  unfolding masked
+  masked-linear k l = linear-xor (λ x. bitAnd (f x) k) (λ x. bitAnd (g x) l) (linear-and f lf k) (linear-and g lg l)
 
-  w-linear : Linear w
-  unfolding w
-  w-linear = linear-and (λ x. bitXor (f x) (g x)) (linear-xor f g lf lg) s
+  folded-linear : (n : ℕ) → Linear (λ x. folded (f x) (g x) n)
+  unfolding folded
+  folded-linear n = linear-xor f (λ x. rotated (g x) n) lf (rotated-linear g lg n)
 
-  folded-linear : Linear (λ x. folded (f x) (g x) s n)
-  unfolding folded w
-  folded-linear =
-      linear-xor (λ x. bitXor (g x) (w x)) (λ x. rotated (bitXor (f x) (w x)) n) (linear-xor g w lg w-linear)
-      (rotated-linear (λ x. bitXor (f x) (w x)) (linear-xor f w lf w-linear) n)
+-- a number and the same number rotated, each under its mask; and two of these, folded
+masks-linear : (k l : ℕ) → Linear (λ x. masked x (rotated x 4) k l)
+masks-linear = masked-linear (λ x. x) (λ x. rotated x 4) linear-self (rotated-linear (λ x. x) linear-self 4)
 
--- a number and the same number with its halves exchanged, each under its mask; and two of these, folded
-masks-linear : (k l : ℕ) → Linear (λ x. masked x (rotated x 32) k l)
-masks-linear = masked-linear (λ x. x) (λ x. rotated x 32) linear-self (rotated-linear (λ x. x) linear-self 32)
-
-pair-linear : (k l m n : ℕ) → Linear (λ x. folded (masked x (rotated x 32) k l) (masked x (rotated x 32) m n) 0xffff0000ffff0000 16)
-pair-linear k l m n =
-    folded-linear (λ x. masked x (rotated x 32) k l) (λ x. masked x (rotated x 32) m n) (masks-linear k l) (masks-linear m n) 0xffff0000ffff0000 16
+pair-linear : (k l m n : ℕ) → Linear (λ x. folded (masked x (rotated x 4) k l) (masked x (rotated x 4) m n) 2)
+pair-linear k l m n = folded-linear _ _ (masks-linear k l) (masks-linear m n) 2
 
 folded-masks-linear : Linear foldedMasks
 unfolding foldedMasks
-folded-masks-linear =
-    folded-linear _ _ (pair-linear 0x00ffff1fc411c771 0x00000000de848843 0xf71007e003f0aada 0x914a3f007cc12215)
-    (pair-linear 0xfb3f44e03c26c0b6 0x220f3400bd08788c 0xef200020fff059ed 0x488d000f0342911a) 0xff00ff00ff00ff00 8
+folded-masks-linear = folded-linear _ _ (pair-linear _ _ _ _) (pair-linear _ _ _ _) 1
 
 thrice-linear : (f : ℕ → ℕ) → Linear f → (i j k : ℕ) → Linear (λ x. overShifted (overShifted (overShifted (f x) i) j) k)
 thrice-linear f lf i j k =
     shifted-linear (λ x. overShifted (overShifted (f x) i) j) (shifted-linear (λ x. overShifted (f x) i) (shifted-linear f lf i) j) k
 
-parities-linear : (f : ℕ → ℕ) → Linear f → Linear (λ x. parities (f x))
-unfolding parities
-parities-linear f lf = linear-and (λ x. overShifted (overShifted (overShifted (f x) 4) 2) 1) (thrice-linear f lf 4 2 1) 0x0101010101010101
-
-gathered-linear : (f : ℕ → ℕ) → Linear f → Linear (λ x. gathered (f x))
-unfolding gathered
-gathered-linear f lf = linear-mod (λ x. overShifted (overShifted (overShifted (f x) 7) 14) 28) (thrice-linear f lf 7 14 28) 8
-
 fold-linear : Linear foldedCheck
-unfolding foldedCheck
-fold-linear = gathered-linear (λ x. parities (foldedMasks x)) (parities-linear foldedMasks folded-masks-linear)
+unfolding foldedCheck laidOver
+fold-linear =
+    linear-mod (λ x. overShifted (overShifted (overShifted (foldedMasks x) 32) 16) 8) (thrice-linear foldedMasks folded-masks-linear 32 16 8) 8
 
 -- ---- they agree
 
 one-bit : every (λ k. eqb (foldedCheck (2 ^ k)) (checkOf columns (bytesOfNumber (2 ^ k)))) 64 ≡ true
-unfolding every foldedCheck gathered parities foldedMasks folded overShifted masked rotated checkOf xorOf dataBit bitAt bytesOfNumber
+unfolding every foldedCheck laidOver foldedMasks folded overShifted masked rotated checkOf xorOf dataBit bitAt bytesOfNumber
 one-bit = refl
 
 pub fold-is-check : (x : ℕ) → x < 2 ^ 64 → foldedCheck x ≡ checkOf columns (bytesOfNumber x)

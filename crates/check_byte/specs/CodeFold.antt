@@ -1,5 +1,5 @@
--- The check byte of a doubleword under the columns of ECC-2, as the code folds it: every check bit is the parity of some data bits. Two numbers of 64
--- bits at a time are masked and laid over each other, until each byte of one number has the parity of one check bit.
+-- The check byte of a doubleword under the columns of ECC-2, as the code folds it: every check bit is the parity of some data bits. Masks select them,
+-- and numbers of 64 bits are rotated and laid over each other, until all that counts for one check bit stands at the same bit of every byte.
 use Prim.Native.Nat.{ℕ, _-_, _*_, _/_, _%_, _^_}
 use lib.Bits.{bitAnd, bitXor}
 
@@ -11,34 +11,29 @@ rotated x n = bitXor (x * 2 ^ n % 2 ^ 64) (x / 2 ^ (64 - n))
 unfoldable pub masked : ℕ → ℕ → ℕ → ℕ → ℕ
 masked x y k l = bitXor (bitAnd x k) (bitAnd y l)
 
--- the halves of a, exchanged, over those of b, exchanged; s selects one half of each n bits
-unfoldable pub folded : ℕ → ℕ → ℕ → ℕ → ℕ
-folded a b s n =
-    let w = bitAnd (bitXor a b) s in
-    bitXor (bitXor b w) (rotated (bitXor a w) n)
+-- a, and over it b, rotated
+unfoldable pub folded : ℕ → ℕ → ℕ → ℕ
+folded a b n = bitXor a (rotated b n)
 
 -- a number laid over itself, shifted
 unfoldable pub overShifted : ℕ → ℕ → ℕ
 overShifted x n = bitXor x (x / 2 ^ n)
 
--- a number whose byte j has the parity of check bit j
+-- a number in which bit j of every byte counts for check bit j: the rotations, by sums of 4, 2 and 1, bring each data bit to such a bit, each under a
+-- mask that selects the data bits that count for the check bit they then stand at
 unfoldable pub foldedMasks : ℕ → ℕ
 foldedMasks x =
-    let y = rotated x 32 in
-    let a = masked x y 0x00ffff1fc411c771 0x00000000de848843 in
-    let b = masked x y 0xf71007e003f0aada 0x914a3f007cc12215 in
-    let c = masked x y 0xfb3f44e03c26c0b6 0x220f3400bd08788c in
-    let d = masked x y 0xef200020fff059ed 0x488d000f0342911a in
-    folded (folded a b 0xffff0000ffff0000 16) (folded c d 0xffff0000ffff0000 16) 0xff00ff00ff00ff00 8
+    let y = rotated x 4 in
+    let a = masked x y 0x3f809a6450372207 0x18caa18c604f201f in
+    let b = masked x y 0xcf30610294008bc4 0x1c3568201cd5c3c0 in
+    let c = masked x y 0x9f6448212d92148a 0xa17055c53aac178f in
+    let d = masked x y 0xe43a9491284925e3 0xe4921efaa7008107 in
+    folded (folded a b 2) (folded c d 2) 1
 
--- the parity of each byte, as its lowest bit
-unfoldable pub parities : ℕ → ℕ
-parities x = bitAnd (overShifted (overShifted (overShifted x 4) 2) 1) 0x0101010101010101
-
--- the lowest bits of the bytes as one byte
-unfoldable pub gathered : ℕ → ℕ
-gathered x = overShifted (overShifted (overShifted x 7) 14) 28 % 256
+-- the eight bytes of a number, laid over each other
+unfoldable pub laidOver : ℕ → ℕ
+laidOver x = overShifted (overShifted (overShifted x 32) 16) 8 % 256
 
 -- ECC-4: the check byte, as the code computes it
 unfoldable pub foldedCheck : ℕ → ℕ
-foldedCheck x = gathered (parities (foldedMasks x))
+foldedCheck x = laidOver (foldedMasks x)

@@ -1,6 +1,6 @@
 use mathlib.Core.Path.{ap, _∙_}
 use native.Mathlib.Omega.{arith}
-use Rattle.check_byte.specs.CodeFold.{parities, gathered, foldedCheck}
+use Rattle.check_byte.specs.CodeFold.{laidOver, foldedCheck}
 use Rattle.check_byte.proofs.FoldLaws.{fold-is-check}
 use borrow.Author.Needs.{needs}
 use Rattle.check_byte.proofs.fold.check_folded.Statement.{statement}
@@ -9,9 +9,8 @@ use Rattle.check_byte.proofs.fold.check_folded.Tie as tie
 returns : tie.Need-returns
 unfolding foldedCheck
 returns c =
-    c .gathered .ensures ∙ ap gathered (c .before .parities .ensures ∙ ap parities (c .before .before .folded-masks .ensures))
-    ∙ fold-is-check (c .before .before .before .args .doubleword) (omega arith)
+    c .laid-over .ensures ∙ ap laidOver (c .before .folded-masks .ensures)
+    ∙ fold-is-check (c .before .before .args .doubleword) (omega arith)
 
 pub check-folded-spec : {M : Type 1} → statement M
-check-folded-spec =
-    tie.close (tie.spec (λ c κs. search needs) (λ c κs. search needs) (λ c κs. search needs) returns)
+check-folded-spec = tie.close (tie.spec (λ c κs. search needs) (λ c κs. search needs) returns)

@@ -1,14 +1,14 @@
-use Rattle.check_byte.specs.CodeFold.{gathered}
+use Rattle.check_byte.specs.CodeFold.{laidOver}
 use borrow.Author.Needs.{needs}
-use Rattle.check_byte.proofs.fold.gathered.Statement.{statement}
-use Rattle.check_byte.proofs.fold.gathered.Tie as tie
+use Rattle.check_byte.proofs.fold.laid_over.Statement.{statement}
+use Rattle.check_byte.proofs.fold.laid_over.Tie as tie
 
 returns : tie.Need-returns
-unfolding gathered
+unfolding laidOver
 returns c = simp (c .over-shifted3 .ensures, c .before .over-shifted2 .ensures, c .before .before .over-shifted .ensures)
 
-pub gathered-spec : {M : Type 1} → statement M
-gathered-spec =
+pub laid-over-spec : {M : Type 1} → statement M
+laid-over-spec =
     tie.close
     (tie.spec
     (λ c κs. search needs)
