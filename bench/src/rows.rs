@@ -1,6 +1,7 @@
 //! The rows of memory calls and of the map, for each set-up.
 use crate::bursts;
 use crate::machine::{is_same, machine, touched, used, Flips, Sides, DOUBLEWORDS};
+use crate::scrubs;
 use crate::setups::{self, Setup};
 use crate::table::{over, Row, Table};
 use model::gen::Rng;
@@ -18,6 +19,7 @@ enum Call {
     SplitRead,
     SplitWrite,
     Scrub,
+    CorrectedScrub,
     Flip,
     Map,
     BurstRead,
@@ -27,7 +29,11 @@ enum Call {
 }
 
 const READ: &str = "read of 8";
+const CORRECTED_READ: &str = "read of 8, corrected";
+const UNCORRECTABLE_READ: &str = "read of 8, uncorrectable";
 const SHORT_WRITE: &str = "write of 1";
+const SCRUB: &str = "scrub";
+const CORRECTED_SCRUB: &str = "scrub, corrected";
 const SPLIT_READ: &str = "split read of 8";
 const SPLIT_WRITE: &str = "split write of 8";
 const BURST_READ: &str = "burst read";
@@ -35,19 +41,23 @@ const BURST_WRITE: &str = "burst write";
 const FOUR_READS: &str = "four reads of 8";
 const FOUR_WRITES: &str = "four writes of 8";
 
-/// Each split beside a call of one part that does the same to its cell, and each burst beside the single calls that it replaces.
-pub const RATIOS: [(&str, &str); 4] = [
+/// Calls that find their cell corrected or uncorrectable beside the same calls on clean cells, each split beside a call of one part that does the same
+/// to its cell, and each burst beside the single calls that it replaces.
+pub const RATIOS: [(&str, &str); 7] = [
+    (CORRECTED_READ, READ),
+    (UNCORRECTABLE_READ, READ),
+    (CORRECTED_SCRUB, SCRUB),
     (SPLIT_READ, READ),
     (SPLIT_WRITE, SHORT_WRITE),
     (BURST_READ, FOUR_READS),
     (BURST_WRITE, FOUR_WRITES),
 ];
 
-const ROWS: [(&str, Call, Flips); 17] = [
+const ROWS: [(&str, Call, Flips); 18] = [
     (READ, Call::Read(8), Flips::None),
     ("read of 1", Call::Read(1), Flips::None),
-    ("read of 8, corrected", Call::Read(8), Flips::One),
-    ("read of 8, uncorrectable", Call::Read(8), Flips::Two),
+    (CORRECTED_READ, Call::Read(8), Flips::One),
+    (UNCORRECTABLE_READ, Call::Read(8), Flips::Two),
     ("write of 8", Call::Write(8), Flips::None),
     (SHORT_WRITE, Call::Write(1), Flips::None),
     (SPLIT_READ, Call::SplitRead, Flips::None),
@@ -57,7 +67,8 @@ const ROWS: [(&str, Call, Flips); 17] = [
         Flips::OneOfTwo,
     ),
     (SPLIT_WRITE, Call::SplitWrite, Flips::None),
-    ("scrub", Call::Scrub, Flips::None),
+    (SCRUB, Call::Scrub, Flips::None),
+    (CORRECTED_SCRUB, Call::CorrectedScrub, Flips::One),
     ("flip", Call::Flip, Flips::None),
     ("map", Call::Map, Flips::None),
     (BURST_READ, Call::BurstRead, Flips::None),
@@ -87,13 +98,14 @@ fn row(table: &mut Table, setup: &Setup, name: &'static str, call: Call, flips: 
         name,
         inputs: &inputs,
     };
+    let touched = touched(setup);
     let sides = (&mut a, &mut b, &mut c);
     match call {
         Call::Read(n) => read_row(table, row, sides, n),
         Call::Write(n) => write_row(table, row, sides, n),
         Call::SplitRead => read_row(table, row, sides, 8),
         Call::SplitWrite => write_row(table, row, sides, 8),
-        Call::Scrub => scrub_row(table, row, sides),
+        Call::Scrub | Call::CorrectedScrub => scrubs::row(table, row, sides, &touched),
         Call::Flip => flip_row(table, row, sides),
         Call::Map => map_row(table, row, sides),
         Call::BurstRead => bursts::read_row(table, row, sides),
@@ -101,7 +113,6 @@ fn row(table: &mut Table, setup: &Setup, name: &'static str, call: Call, flips: 
         Call::FourReads => bursts::four_reads_row(table, row, sides),
         Call::FourWrites => bursts::four_writes_row(table, row, sides),
     }
-    let touched = touched(setup);
     assert!(
         is_same(&a, &b, &touched),
         "{}, {name}: the model",
@@ -114,9 +125,12 @@ fn row(table: &mut Table, setup: &Setup, name: &'static str, call: Call, flips: 
     );
 }
 
-/// A split starts inside a doubleword, and not in the last one, since it goes on in the next.
+/// A split starts inside a doubleword, and not in the last one, since it goes on in the next. A corrected scrub finds each doubleword once.
 fn addresses(setup: &Setup, call: Call) -> Vec<u32> {
     let mut rng = Rng::new(106);
+    if let Call::CorrectedScrub = call {
+        return in_random_order(&mut rng, setup.address);
+    }
     let mut address = || {
         let (inside, doublewords) = match call {
             Call::Read(8) | Call::Write(8) => (0, DOUBLEWORDS),
@@ -129,6 +143,15 @@ fn addresses(setup: &Setup, call: Call) -> Vec<u32> {
         setup.address + 8 * rng.below(doublewords) + inside
     };
     (0..CALLS).map(|_| address()).collect()
+}
+
+/// An address in each of the doublewords.
+fn in_random_order(rng: &mut Rng, first: u32) -> Vec<u32> {
+    let mut addresses: Vec<u32> = (0..DOUBLEWORDS).map(|k| first + 8 * k + k % 8).collect();
+    for left in (1..DOUBLEWORDS).rev() {
+        addresses.swap(left as usize, rng.below(left + 1) as usize);
+    }
+    addresses
 }
 
 fn read_row(table: &mut Table, row: Row, (a, b, c): Sides, n: usize) {
@@ -167,23 +190,6 @@ fn write_row(table: &mut Table, row: Row, (a, b, c): Sides, n: usize) {
         let (bytes, answer) = (&mut c.record.bytes, &mut c.numbers);
         // SAFETY: as above.
         used(unsafe { limit::limit_write(bytes, cells, length, at, buffer, n, answer) });
-    });
-    table.row(row, [Some(&mut ours), Some(&mut model), Some(&mut limit)]);
-}
-
-fn scrub_row(table: &mut Table, row: Row, (a, b, c): Sides) {
-    let mut ours = over(|at| {
-        let (cells, length) = (a.cells.as_mut_ptr(), a.cells.len());
-        let (bytes, answer) = (&mut a.record.bytes, &mut a.numbers);
-        // SAFETY: the pointer is to as many bytes as the length says.
-        used(unsafe { ffi::mpc106_raw_scrub(bytes, cells, length, at, answer) });
-    });
-    let mut model = over(|at| used(memory::scrub(&mut b.record, &mut b.cells, at)));
-    let mut limit = over(|at| {
-        let (cells, length) = (c.cells.as_mut_ptr(), c.cells.len());
-        let (bytes, answer) = (&mut c.record.bytes, &mut c.numbers);
-        // SAFETY: as above.
-        used(unsafe { limit::limit_scrub(bytes, cells, length, at, answer) });
     });
     table.row(row, [Some(&mut ours), Some(&mut model), Some(&mut limit)]);
 }

@@ -15,8 +15,16 @@ pub struct Row<'a> {
     pub inputs: &'a [u32],
 }
 
-/// The calls of one side, made with each input; none if the side has no such call.
-pub type Side<'a> = Option<&'a mut dyn FnMut(&[u32])>;
+/// What a side is asked for: to put back the cells that its calls change, if they change what the next turn should find, or to make its call
+/// with each input.
+#[derive(Clone, Copy)]
+pub enum Task<'a> {
+    Restore,
+    Calls(&'a [u32]),
+}
+
+/// One side of a row; none if the side has no such call.
+pub type Side<'a> = Option<&'a mut dyn FnMut(Task)>;
 
 struct Line {
     group: &'static str,
@@ -30,19 +38,27 @@ pub struct Table {
 }
 
 /// Makes the calls once without a clock, then timed.
-fn nanoseconds(calls: &mut dyn FnMut(&[u32]), inputs: &[u32]) -> f64 {
-    calls(inputs);
+fn nanoseconds(side: &mut dyn FnMut(Task), inputs: &[u32]) -> f64 {
+    side(Task::Restore);
+    side(Task::Calls(inputs));
+    side(Task::Restore);
     let start = Instant::now();
-    calls(inputs);
+    side(Task::Calls(inputs));
     start.elapsed().as_secs_f64() * 1e9 / inputs.len() as f64
 }
 
-/// A side's call as a loop over its inputs.
-pub fn over(mut call: impl FnMut(u32)) -> impl FnMut(&[u32]) {
-    move |inputs| {
-        for &input in inputs {
-            call(black_box(input));
+/// A side's call as a loop over its inputs. What it changes is not put back.
+pub fn over(mut call: impl FnMut(u32)) -> impl FnMut(Task) {
+    move |task: Task| {
+        if let Task::Calls(inputs) = task {
+            each(inputs, &mut call);
         }
+    }
+}
+
+pub fn each(inputs: &[u32], mut call: impl FnMut(u32)) {
+    for &input in inputs {
+        call(black_box(input));
     }
 }
 

@@ -13,7 +13,7 @@ ghost use Rattle.ecc.specs.Doubleword.{bytesOfNumber};
 ghost use Rattle.ecc.specs.Cell.{encode, rightBy};
 ghost use Rattle.correction.specs.CodeLoad.{decodedOf, decodedBy};
 use ecc::Reading;
-use ecc::columns::COLUMNS;
+use syndrome_table::CLEAN;
 
 // What decoding a cell gives: its reading, and the doubleword as a number, byte 0 lowest; it is right unless the reading is uncorrectable.
 pub struct Loaded {
@@ -29,8 +29,8 @@ fn unit(j: usize) -> u8
     1 << j
 }
 
-// What a syndrome other than 0 means: the first flip bit whose column it is. The data bits and the check bits have a loop
-// each, so that neither loop has to test which kind its bit is.
+// What a syndrome other than 0 means under any columns: the first flip bit whose column it is. The data bits and the check bits have a loop each,
+// so that neither loop has to test which kind its bit is.
 fn find_bit(columns: &[u8], s: u8) -> Reading
     requires { ⌜ (length (now columns) ≡ 64) × (s ≢ 0) ⌝ }
     ensures { λ r. ⌜ r ≡ readingOf (now (columns .entry)) s ⌝ }
@@ -42,22 +42,26 @@ fn find_bit(columns: &[u8], s: u8) -> Reading
         }
         b += 1;
     }
-    while b < 72 {
-        if unit(b - 64) == s {
-            return Reading::Corrected(b as u8);
+    let mut j: usize = 0;
+    while j < 8 {
+        if unit(j) == s {
+            return Reading::Corrected((64 + j) as u8);
         }
-        b += 1;
+        j += 1;
     }
     Reading::Uncorrectable
 }
 
-// The same under the columns of ECC-2. A function that names the table copies it when it is entered, so this one is entered only for a
-// syndrome that has to be found.
-fn find_standard_bit(s: u8) -> Reading
+// The same under the columns of ECC-2, by the table. Only 0 is clean, so every entry that is no flip bit is uncorrectable here.
+fn look_up_bit(s: u8) -> Reading
     requires { ⌜ s ≢ 0 ⌝ }
     ensures { λ r. ⌜ r ≡ readingOf columns s ⌝ }
 {
-    find_bit(&COLUMNS, s)
+    let b = syndrome_table::entry(s);
+    if b < CLEAN {
+        return Reading::Corrected(b);
+    }
+    Reading::Uncorrectable
 }
 
 // ECC-6: what a syndrome means.
@@ -70,7 +74,7 @@ pub fn read_syndrome(lent: bool, columns: &[u8], s: u8) -> Reading
     if lent & (columns.len() == 64) {
         return find_bit(columns, s);
     }
-    find_standard_bit(s)
+    look_up_bit(s)
 }
 
 // The mask of flip bit b within its byte.

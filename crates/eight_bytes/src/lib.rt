@@ -1,5 +1,6 @@
 // Eight bytes as one number, the first lowest.
 ghost use mathlib.Core.Path.{_≡_};
+ghost use mathlib.Core.List.{[], _∷_};
 ghost use Prim.Native.Nat.{_+_, _*_, _<_};
 ghost use Rattle.eight_bytes.specs.CodeNumber.{bytesIn, eightAt, eightAcross};
 
@@ -16,6 +17,13 @@ fn four(a: u8, b: u8, c: u8, d: u8) -> u64
     wide(a) + wide(b) * 256 + wide(c) * 65536 + wide(d) * 16777216
 }
 
+// Eight bytes as a number.
+pub fn number_of(a: u8, b: u8, c: u8, d: u8, e: u8, f: u8, g: u8, h: u8) -> u64
+    ensures { λ r. ⌜ bytesIn 8 r ≡ a ∷ b ∷ c ∷ d ∷ e ∷ f ∷ g ∷ h ∷ [] ⌝ }
+{
+    four(a, b, c, d) + four(e, f, g, h) * 4294967296
+}
+
 // The eight bytes from an index on; 0 if there are fewer.
 pub fn number_at(bytes: &[u8], at: usize) -> u64
     ensures { λ r. ⌜ bytesIn 8 r ≡ eightAt (now (bytes .entry)) at ⌝ }
@@ -26,9 +34,16 @@ pub fn number_at(bytes: &[u8], at: usize) -> u64
     if bytes.len() - 8 < at {
         return 0;
     }
-    let low = four(bytes[at], bytes[at + 1], bytes[at + 2], bytes[at + 3]);
-    let high = four(bytes[at + 4], bytes[at + 5], bytes[at + 6], bytes[at + 7]);
-    low + high * 4294967296
+    number_of(
+        bytes[at],
+        bytes[at + 1],
+        bytes[at + 2],
+        bytes[at + 3],
+        bytes[at + 4],
+        bytes[at + 5],
+        bytes[at + 6],
+        bytes[at + 7],
+    )
 }
 
 // The eight bytes of a number.

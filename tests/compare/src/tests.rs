@@ -70,6 +70,10 @@ pub const TESTS: &[Test] = &[
     test("flipped-bit-other-kinds", |rng, _| {
         flipped_bit::none_without_correction(rng)
     }),
+    test("syndromes", |rng, _| {
+        flipped_bit::of_stored_check_bytes(rng)
+    }),
+    test("syndromes-printed", |_, _| flipped_bit::on_the_page()),
     test("wrapper", |rng, _| wrapper::beside_the_library(rng)),
     test("limit", |rng, _| limit::beside_the_library(rng)),
     test("lists", |rng, _| lists::against_flat_machine(rng)),

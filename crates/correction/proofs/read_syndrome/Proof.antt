@@ -23,7 +23,7 @@ returns-2 c = simp (c .before .if2 .taken, c .find-bit .ensures)
 
 returns-3 : tie.Need-returns-3
 unfolding columnsFor
-returns-3 c = simp (c .before .if2 .left, c .find-standard-bit .ensures)
+returns-3 c = simp (c .before .if2 .left, c .look-up-bit .ensures)
 
 pub read-syndrome-spec : {M : Type 1} → statement M
 read-syndrome-spec =

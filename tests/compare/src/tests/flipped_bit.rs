@@ -7,11 +7,13 @@ mod bursts;
 mod miscorrections;
 mod other_kinds;
 mod splits;
+mod syndromes;
 
 pub use bursts::of_beats;
 pub use miscorrections::of_three_flips;
 pub use other_kinds::none_without_correction;
 pub use splits::of_parts;
+pub use syndromes::{of_stored_check_bytes, on_the_page};
 
 use model::code::{self, CELL_BYTES, FLIP_BITS};
 use model::gen::Rng;

@@ -3,9 +3,11 @@
 
 use model::code::{COLUMNS, FLIP_BITS};
 use model::gen::Rng;
-use model::Answer::{self, Clean, Corrected, Uncorrectable};
+use model::Answer::{self, Clean, Uncorrectable};
 use model::Call;
+use std::ops::BitXor;
 
+use super::syndromes::meaning;
 use super::{cell, Setup, PATTERNS};
 use crate::coverage::Coverage;
 use crate::ways::{ways, Met};
@@ -39,19 +41,17 @@ fn sets_of_three() -> impl Iterator<Item = [u8; 3]> {
     })
 }
 
-/// ECC-6, by a look through the columns.
+/// The columns of three bits never make 0.
 fn reading(bits: [u8; 3]) -> Answer {
-    let syndrome = bits
-        .iter()
-        .fold(0, |syndrome, &bit| syndrome ^ COLUMNS[usize::from(bit)]);
-    (0..)
-        .zip(COLUMNS)
-        .find(|&(_, column)| column == syndrome)
-        .map_or(Uncorrectable, |(bit, _)| Corrected(bit))
+    meaning(
+        bits.map(|bit| COLUMNS[usize::from(bit)])
+            .into_iter()
+            .fold(0, BitXor::bitxor),
+    )
 }
 
 /// The cell stands second, between clean ones, where a call has several.
-fn every_call(
+pub fn every_call(
     rng: &mut Rng,
     setup: &Setup,
     flipped: &[u8],
