@@ -71,6 +71,11 @@ pub fn is_same(a: &Machine, b: &Machine, cells: &Range<usize>) -> bool {
         && (b.numbers == [0; 5] || a.numbers == b.numbers)
 }
 
+/// The last call found its cell corrected: the low byte of its part says so.
+pub fn is_corrected(machine: &Machine) -> bool {
+    machine.numbers[1] % 256 == 2
+}
+
 /// The bytes of the cells of the doublewords that the calls touch; these cells are next to each other.
 pub fn touched(setup: &Setup) -> Range<usize> {
     let place = model::map::map(&setup.record, setup.address);

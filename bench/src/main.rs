@@ -10,8 +10,8 @@
 //! Error reporting is enabled. After a row, record, buffer and those cells must be equal on all sides, and so must the last answer of ours and of
 //! the limit, its flip bits included.
 //!
-//! In the row of corrected scrubs each doubleword is scrubbed once in a turn, 1,024 calls, and between turns, without a clock, the cells get their
-//! inverted bits back. Three tables have the time of a call that finds a cell corrected or uncorrectable divided by that of the same call on clean cells, on
+//! The row of corrected scrubs makes 1,024 calls at a time, one for each doubleword, and before these, without a clock, the cells get their inverted
+//! bits back. Three tables have the time of a call that finds a cell corrected or uncorrectable divided by that of the same call on clean cells, on
 //! each side.
 //!
 //! A split starts inside one of these doublewords, at any place but its first byte, and goes on in the next. In the row with a corrected part, every

@@ -1,6 +1,6 @@
 //! The rows of memory calls and of the map, for each set-up.
 use crate::bursts;
-use crate::machine::{is_same, machine, touched, used, Flips, Sides, DOUBLEWORDS};
+use crate::machine::{is_corrected, is_same, machine, touched, used, Flips, Sides, DOUBLEWORDS};
 use crate::scrubs;
 use crate::setups::{self, Setup};
 use crate::table::{over, Row, Table};
@@ -113,6 +113,9 @@ fn row(table: &mut Table, setup: &Setup, name: &'static str, call: Call, flips: 
         Call::FourReads => bursts::four_reads_row(table, row, sides),
         Call::FourWrites => bursts::four_writes_row(table, row, sides),
     }
+    if matches!(flips, Flips::One) {
+        assert!(is_corrected(&a), "{}, {name}: the answer", setup.name);
+    }
     assert!(
         is_same(&a, &b, &touched),
         "{}, {name}: the model",
@@ -145,7 +148,7 @@ fn addresses(setup: &Setup, call: Call) -> Vec<u32> {
     (0..CALLS).map(|_| address()).collect()
 }
 
-/// An address in each of the doublewords.
+/// An address in each of the doublewords, in random order.
 fn in_random_order(rng: &mut Rng, first: u32) -> Vec<u32> {
     let mut addresses: Vec<u32> = (0..DOUBLEWORDS).map(|k| first + 8 * k + k % 8).collect();
     for left in (1..DOUBLEWORDS).rev() {

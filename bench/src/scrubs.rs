@@ -1,5 +1,5 @@
-//! The rows of scrubs. A scrub stores a corrected cell again; so in the row of these a turn scrubs each doubleword once, and each turn finds the cells as
-//! they were before the first.
+//! The rows of scrubs. A scrub stores a corrected cell again; so the cells are put back before the calls of each turn, without a clock and with one, and
+//! the calls of the row with corrected cells go to each doubleword once.
 use crate::machine::{used, Machine, Sides};
 use crate::table::{each, Row, Table, Task};
 use model::memory;

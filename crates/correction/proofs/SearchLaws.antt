@@ -1,25 +1,17 @@
 -- What one turn of the loops does that look for the bit of a syndrome.
-use mathlib.Core.Path.{_≡_, ap, _∙_}
+use mathlib.Core.Path.{_≡_, ap}
 use mathlib.Core.Logic.{_≢_}
 use mathlib.Core.List.{List}
-use Prim.Native.Nat.{ℕ, _+_, _-_, _^_, _≤_, _<_}
-use native.Mathlib.Omega.{arith}
+use Prim.Native.Nat.{ℕ, _+_, _≤_, _<_}
 use borrow.Author.Tests.{eq-eqb, ne-eqb, lt-ltb}
 use lib.Dec.{eqb}
 use Rattle.basics.proofs.RangeLaws.{Looked, hit, skip, none}
 use Rattle.ecc.specs.declared.Reading.the-variants.{Corrected, Uncorrectable}
 use Rattle.ecc.specs.CheckCode.{flipColumn, bitReading, readingOf}
-use Rattle.ecc.proofs.Decoding.{column-check}
 
 -- no flip bit below b has the column s
 abbrev pub Passed : List ℕ → ℕ → ℕ → Type 0
 Passed cols s b = Looked (λ k. eqb (flipColumn cols k) s) 72 0 b
-
--- the column of check bit j
-pub check-column : (cols : List ℕ) (j : ℕ) → flipColumn cols (64 + j) ≡ 2 ^ j
-check-column cols j =
-    let place : 64 + j - 64 ≡ j = omega arith in
-    column-check cols (64 + j) (omega arith) ∙ ap (λ (k : ℕ). 2 ^ k) place
 
 module _ (cols : List ℕ) (s b : ℕ) (inv : Passed cols s b) where
   module _ (x : ℕ) (h : b < 72) (e : x ≡ flipColumn cols b) where

@@ -29,8 +29,8 @@ fn unit(j: usize) -> u8
     1 << j
 }
 
-// What a syndrome other than 0 means under any columns: the first flip bit whose column it is. The data bits and the check bits have a loop each,
-// so that neither loop has to test which kind its bit is.
+// What a syndrome other than 0 means: the first flip bit whose column it is. The data bits and the check bits have a loop
+// each, so that neither loop has to test which kind its bit is.
 fn find_bit(columns: &[u8], s: u8) -> Reading
     requires { ⌜ (length (now columns) ≡ 64) × (s ≢ 0) ⌝ }
     ensures { λ r. ⌜ r ≡ readingOf (now (columns .entry)) s ⌝ }
@@ -42,17 +42,16 @@ fn find_bit(columns: &[u8], s: u8) -> Reading
         }
         b += 1;
     }
-    let mut j: usize = 0;
-    while j < 8 {
-        if unit(j) == s {
-            return Reading::Corrected((64 + j) as u8);
+    while b < 72 {
+        if unit(b - 64) == s {
+            return Reading::Corrected(b as u8);
         }
-        j += 1;
+        b += 1;
     }
     Reading::Uncorrectable
 }
 
-// The same under the columns of ECC-2, by the table. Only 0 is clean, so every entry that is no flip bit is uncorrectable here.
+// The same under the columns of ECC-2, by the table. Only 0 is clean, so that an entry that is no flip bit is uncorrectable here.
 fn look_up_bit(s: u8) -> Reading
     requires { ⌜ s ≢ 0 ⌝ }
     ensures { λ r. ⌜ r ≡ readingOf columns s ⌝ }

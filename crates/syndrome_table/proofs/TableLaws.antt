@@ -1,82 +1,62 @@
 -- The table has the definition's reading of every syndrome: one test over its 256 entries, which is computed.
 use mathlib.Core.Path.{_≡_, refl, sym, ap, _∙_}
-use mathlib.Core.Bool.{Bool, true, false, cond}
+use mathlib.Core.Bool.{true}
 use mathlib.Core.Logic.{_≢_}
 use mathlib.Core.List.{List, [], _++_}
 use Prim.Native.Nat.{ℕ, zero, suc, _+_, _%_, _≤_, _<_}
 use native.Mathlib.Omega.{arith}
-use borrow.Author.Tests.{eqb-true, eq-eqb, ne-eqb, lt-ltb, le-ltb}
+use borrow.Author.Tests.{eqb-true, ltb-true, ne-eqb}
 use lib.Dec.{eqb, ltb}
 use lib.ListN.{getD, List·getD-append}
 use lib.Seq.{getD-append-add}
 use Rattle.basics.specs.Range.{every, first, firstOf}
 use Rattle.basics.proofs.RangeLaws.{every-at, byCases}
 use Rattle.eight_bytes.specs.CodeNumber.{bytesIn}
-use Rattle.ecc.specs.declared.Reading.{Reading}
-use Rattle.ecc.specs.declared.Reading.the-variants.{Clean, Corrected, Uncorrectable}
+use Rattle.ecc.specs.declared.Reading.the-variants.{Corrected, Uncorrectable}
 use Rattle.ecc.specs.Columns.{columns}
 use Rattle.ecc.specs.CheckCode.{flipColumn, bitReading, readingOf}
-use Rattle.syndrome_table.specs.CodeTable.{table, entryAt, entryReading}
+use Rattle.syndrome_table.specs.CodeTable.{table, entryAt, entryOf}
 
 -- ---- the rule of the table
 
--- a reading as a number, so that two of them can be compared
-abbrev number : Reading → ℕ
-number Clean = 0
-number Uncorrectable = 1
-number (Corrected b) = suc (suc b)
-
-abbrev numbered : ℕ → Reading
-numbered zero = Clean
-numbered (suc zero) = Uncorrectable
-numbered (suc (suc b)) = Corrected b
-
-back : (r : Reading) → numbered (number r) ≡ r
-back Clean = refl
-back Uncorrectable = refl
-back (Corrected b) = refl
-
-all-entries : every (λ s. eqb (number (entryReading (entryAt s))) (number (readingOf columns s))) 256 ≡ true
-unfolding every entryReading bitReading readingOf first firstOf flipColumn
+all-entries : every (λ s. eqb (entryAt s) (entryOf (readingOf columns s))) 256 ≡ true
+unfolding every entryOf bitReading readingOf first firstOf flipColumn
 all-entries = refl
 
--- ECC-6: each entry is the reading of its syndrome
-pub entry-reads : (s : ℕ) → s < 256 → entryReading (entryAt s) ≡ readingOf columns s
-entry-reads s h =
-    let passed = every-at (λ k. eqb (number (entryReading (entryAt k))) (number (readingOf columns k))) 256 all-entries s h in
-    sym (back (entryReading (entryAt s)))
-    ∙ ap numbered (eqb-true (number (entryReading (entryAt s))) (number (readingOf columns s)) passed)
-    ∙ back (readingOf columns s)
+-- ECC-6: each entry is that of its syndrome's reading
+pub entry-reads : (s : ℕ) → s < 256 → entryAt s ≡ entryOf (readingOf columns s)
+entry-reads s h = eqb-true _ _ (every-at (λ k. eqb (entryAt k) (entryOf (readingOf columns k))) 256 all-entries s h)
 
 -- ---- what an entry of a syndrome other than 0 means
 
-above-clean : (t : Bool) (b : ℕ) → 0 < number (cond t (Corrected b) Uncorrectable)
-above-clean true b = omega arith
-above-clean false b = omega arith
+module _ (b e : ℕ) (is : e ≡ entryOf (bitReading b)) where
+  bit-corrected : e < 72 → Corrected e ≡ bitReading b
+  unfolding entryOf bitReading
+  bit-corrected h =
+      byCases (ltb b 72)
+      (λ t. let same : e ≡ b = rw t at is in rw t (ap Corrected same))
+      (λ t. let same : e ≡ 73 = rw t at is in absurd (omega arith))
 
-bit-not-clean : (b : ℕ) → Clean ≡ bitReading b → ⊥
-unfolding bitReading
-bit-not-clean b e =
-    let same : 0 ≡ number (cond (ltb b 72) (Corrected b) Uncorrectable) = ap number e in
-    omega (arith, same, above-clean (ltb b 72) b)
+  bit-uncorrectable : 72 ≤ e → Uncorrectable ≡ bitReading b
+  unfolding entryOf bitReading
+  bit-uncorrectable h =
+      byCases (ltb b 72)
+      (λ t. let same : e ≡ b = rw t at is in absurd (omega (arith, same, ltb-true b 72 t)))
+      (λ t. rw t)
 
-module _ (cols : List ℕ) (e s : ℕ) (reads : entryReading e ≡ readingOf cols s) where
+module _ (cols : List ℕ) (e s : ℕ) (reads : e ≡ entryOf (readingOf cols s)) (nz : s ≢ 0) where
+  bit : ℕ
+  bit = first (λ b. eqb (flipColumn cols b) s) 72 0
+
+  by-bit : readingOf cols s ≡ bitReading bit
+  unfolding readingOf bit
+  by-bit = rw (ne-eqb s 0 nz)
+
   pub entry-corrected : e < 72 → Corrected e ≡ readingOf cols s
-  unfolding entryReading bitReading
-  entry-corrected h =
-      let found : entryReading e ≡ Corrected e = rw (ne-eqb e 72 (λ q. omega arith), lt-ltb e 72 h) in
-      sym found ∙ reads
+  entry-corrected h = bit-corrected bit e (reads ∙ ap entryOf by-bit) h ∙ sym by-bit
 
-  not-clean : s ≢ 0 → Clean ≡ readingOf cols s → ⊥
-  unfolding readingOf
-  not-clean nz c = bit-not-clean (first (λ b. eqb (flipColumn cols b) s) 72 0) (rw (ne-eqb s 0 nz) at c)
-
-  pub entry-uncorrectable : s ≢ 0 → 72 ≤ e → Uncorrectable ≡ readingOf cols s
-  unfolding entryReading bitReading
-  entry-uncorrectable nz h =
-      byCases (eqb e 72)
-      (λ t. absurd (not-clean nz (rw t at reads)))
-      (λ t. rw (t, le-ltb e 72 h) at reads)
+  pub entry-uncorrectable : 72 ≤ e → Uncorrectable ≡ readingOf cols s
+  entry-uncorrectable h = bit-uncorrectable bit e (reads ∙ ap entryOf by-bit) h ∙ sym by-bit
 
 -- ---- the arms of a match
 
@@ -84,14 +64,14 @@ module _ (cols : List ℕ) (e s : ℕ) (reads : entryReading e ≡ readingOf col
 pub line-at : (k high : ℕ) (entries : List ℕ) → high ≡ k → entries ≡ getD table k [] → entries ≡ getD table high []
 line-at k high entries at e = e ∙ ap (λ (i : ℕ). getD table i []) (sym at)
 
--- the number is none of the keys 0, 1, .., n - 1
-abbrev pub Passed : ℕ → ℕ → Type 0
-Passed zero x = Unit
-Passed (suc n) x = Passed n x × (x ≡ n → ⊥)
+-- a number is none of the keys 0, 1, .., n - 1
+abbrev pub NoneBelow : ℕ → ℕ → Type 0
+NoneBelow zero x = Unit
+NoneBelow (suc n) x = NoneBelow n x × (x ≡ n → ⊥)
 
-pub all-passed : (n x : ℕ) → Passed n x → n ≤ x
-all-passed zero x p = omega arith
-all-passed (suc n) x p = let below = all-passed n x (p .0) in omega (arith, below, p .1)
+pub none-below : (n x : ℕ) → NoneBelow n x → n ≤ x
+none-below zero x p = omega arith
+none-below (suc n) x p = let below = none-below n x (p .0) in omega (arith, below, p .1)
 
 -- ---- an entry of a line
 

@@ -1,13 +1,10 @@
--- The table of the syndromes as the code has it, and what an entry means. Only contracts use it.
+-- The table of the syndromes as the code has it, and the entry that stands for a reading. Only contracts use them.
 use Prim.Native.Nat.{ℕ, _/_, _%_}
-use mathlib.Core.Bool.{cond}
 use mathlib.Core.List.{List, [], _∷_, _++_}
-use lib.Dec.{eqb}
 use lib.ListN.{getD}
 use Rattle.eight_bytes.specs.CodeNumber.{bytesIn}
 use Rattle.ecc.specs.declared.Reading.{Reading}
-use Rattle.ecc.specs.declared.Reading.the-variants.{Clean}
-use Rattle.ecc.specs.CheckCode.{bitReading}
+use Rattle.ecc.specs.declared.Reading.the-variants.{Clean, Corrected, Uncorrectable}
 use Rattle.syndrome_table.specs.declared.entries.Entries.{Entries}
 
 -- the entries that are no flip bits: clean and uncorrectable, each with its letter of LINE-14
@@ -16,6 +13,12 @@ n = 72
 
 abbrev u : ℕ
 u = 73
+
+-- FORM-8: the entry of a reading
+unfoldable pub entryOf : Reading → ℕ
+entryOf Clean = n
+entryOf (Corrected b) = b
+entryOf Uncorrectable = u
 
 -- ECC-6, FORM-8: the entries, a line for each high hexadecimal digit of the syndrome, in the order of the low one
 abbrev pub table : List (List ℕ)
@@ -41,10 +44,6 @@ table =
 -- the entry of a syndrome
 abbrev pub entryAt : ℕ → ℕ
 entryAt s = getD (getD table (s / 16) []) (s % 16) 0
-
--- ECC-6: what an entry means
-unfoldable pub entryReading : ℕ → Reading
-entryReading e = cond (eqb e 72) Clean (bitReading e)
 
 -- the sixteen entries of a line
 abbrev pub entriesOf : Entries → List ℕ

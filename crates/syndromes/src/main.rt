@@ -1,5 +1,5 @@
-// Prints the tables of docs/SYNDROMES.md: the column of each flip bit (ECC-2, ECC-3), and what each syndrome means (ECC-6). They are made from the
-// tables of the library. All entries have the same width, so that a line can be followed with a ruler.
+// Prints the tables of docs/SYNDROMES.md: the column of each flip bit (ECC-2, ECC-3), and what each syndrome means (ECC-6), from the table that the
+// library looks it up in. All entries have the same width, so that a line can be followed with a ruler.
 use syndrome_table::CLEAN;
 use syndrome_table::UNCORRECTABLE;
 

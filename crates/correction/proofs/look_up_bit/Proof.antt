@@ -7,7 +7,7 @@ use Rattle.correction.proofs.look_up_bit.Tie as tie
 returns : tie.Need-returns
 returns c =
     let start = c .before .before in
-    entry-corrected columns _ (start .args .s) (c .before .entry .ensures) (c .if1 .taken)
+    entry-corrected columns _ (start .args .s) (c .before .entry .ensures) (start .pre) (c .if1 .taken)
 
 returns-2 : tie.Need-returns-2
 returns-2 c =

@@ -3,7 +3,6 @@ use mathlib.Core.Path.{ap, _∙_}
 use Prim.Native.Nat.{ℕ, _%_}
 use native.Mathlib.Omega.{arith}
 use lib.ListN.{getD}
-use Rattle.syndrome_table.specs.CodeTable.{entryReading}
 use Rattle.syndrome_table.proofs.TableLaws.{entry-reads}
 use borrow.Author.Needs.{needs}
 use Rattle.syndrome_table.proofs.entry.Statement.{statement}
@@ -12,8 +11,7 @@ use Rattle.syndrome_table.proofs.entry.Tie as tie
 returns : tie.Need-returns
 returns c =
     let s = c .before .before .args .s in
-    ap entryReading (c .entry-at .ensures ∙ ap (λ (l : List ℕ). getD l (s % 16) 0) (c .before .line .ensures))
-    ∙ entry-reads s (omega arith)
+    c .entry-at .ensures ∙ ap (λ (l : List ℕ). getD l (s % 16) 0) (c .before .line .ensures) ∙ entry-reads s (omega arith)
 
 pub entry-spec : {M : Type 1} → statement M
 entry-spec = tie.close (tie.spec (λ c κs. search needs) (λ c κs. search needs) returns)

@@ -1,7 +1,8 @@
 //! The flip bit that "corrected" names (ECC-3, ECC-6): each of the 72, at reads,
 //! short writes and scrubs here, and at bursts and splits in files of their own.
-//! What is expected follows from the bits that were inverted. The parts of the C
-//! functions, the enums of the Rust wrapper and the model must all have it.
+//! What is expected follows from the bits that were inverted, or from the
+//! syndrome. The parts of the C functions, the enums of the Rust wrapper and the
+//! model must all have it.
 
 mod bursts;
 mod miscorrections;
@@ -15,9 +16,9 @@ pub use other_kinds::none_without_correction;
 pub use splits::of_parts;
 pub use syndromes::{of_stored_check_bytes, on_the_page};
 
-use model::code::{self, CELL_BYTES, FLIP_BITS};
+use model::code::{self, CELL_BYTES, COLUMNS, FLIP_BITS};
 use model::gen::Rng;
-use model::Answer::Corrected;
+use model::Answer::{Clean, Corrected, Uncorrectable};
 use model::{Answer, Call, Record};
 
 use crate::answers;
@@ -88,6 +89,17 @@ fn cell(data: [u8; 8], bits: &[u8]) -> [u8; CELL_BYTES] {
     cell
 }
 
+/// ECC-6, by a look through the columns.
+fn meaning(syndrome: u8) -> Answer {
+    if syndrome == 0 {
+        return Clean;
+    }
+    (0..)
+        .zip(COLUMNS)
+        .find(|&(_, column)| column == syndrome)
+        .map_or(Uncorrectable, |(bit, _)| Corrected(bit))
+}
+
 /// A record, and the address of the doubleword that has its cell 0. The next
 /// doublewords have the next cells.
 struct Setup {
@@ -131,4 +143,39 @@ impl Setup {
             None => case.check(coverage),
         }
     }
+}
+
+/// A read, a short write, a scrub, a split and a burst. The cell stands second,
+/// between clean ones, where a call has several.
+fn every_call(
+    rng: &mut Rng,
+    setup: &Setup,
+    flipped: &[u8],
+    answer: Answer,
+    coverage: &mut Coverage<Met>,
+) -> Result<(), String> {
+    let clean = cell(rng.pick(&PATTERNS), &[]);
+    let line = [&clean, flipped, &clean, &clean].concat();
+    let next = setup.address + 8;
+    let read = Call::Read {
+        address: next,
+        count: 8,
+    };
+    let write = Call::Write {
+        address: next + 3,
+        bytes: rng.bytes(2),
+    };
+    let split = Call::Read {
+        address: next - 2,
+        count: 4,
+    };
+    let burst = Call::BurstRead {
+        address: setup.address,
+        count: 32,
+    };
+    setup.gives(&line, read, &[answer], coverage)?;
+    setup.gives(&line, write, &[answer], coverage)?;
+    setup.gives(&line, Call::Scrub { address: next }, &[answer], coverage)?;
+    setup.gives(&line, split, &[Clean, answer], coverage)?;
+    setup.gives(&line, burst, &[Clean, answer, Clean, Clean], coverage)
 }

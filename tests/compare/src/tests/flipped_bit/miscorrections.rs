@@ -3,14 +3,12 @@
 
 use model::code::{COLUMNS, FLIP_BITS};
 use model::gen::Rng;
-use model::Answer::{self, Clean, Uncorrectable};
-use model::Call;
+use model::Answer::{self, Uncorrectable};
 use std::ops::BitXor;
 
-use super::syndromes::meaning;
-use super::{cell, Setup, PATTERNS};
+use super::{cell, every_call, meaning, Setup, PATTERNS};
 use crate::coverage::Coverage;
-use crate::ways::{ways, Met};
+use crate::ways::ways;
 
 /// How many of the 59,640 sets of three bits look like a single one.
 const LIKE_ONE: usize = 34_164;
@@ -48,38 +46,4 @@ fn reading(bits: [u8; 3]) -> Answer {
             .into_iter()
             .fold(0, BitXor::bitxor),
     )
-}
-
-/// The cell stands second, between clean ones, where a call has several.
-pub fn every_call(
-    rng: &mut Rng,
-    setup: &Setup,
-    flipped: &[u8],
-    answer: Answer,
-    coverage: &mut Coverage<Met>,
-) -> Result<(), String> {
-    let clean = cell(rng.pick(&PATTERNS), &[]);
-    let line = [&clean, flipped, &clean, &clean].concat();
-    let next = setup.address + 8;
-    let read = Call::Read {
-        address: next,
-        count: 8,
-    };
-    let write = Call::Write {
-        address: next + 3,
-        bytes: rng.bytes(2),
-    };
-    let split = Call::Read {
-        address: next - 2,
-        count: 4,
-    };
-    let burst = Call::BurstRead {
-        address: setup.address,
-        count: 32,
-    };
-    setup.gives(&line, read, &[answer], coverage)?;
-    setup.gives(&line, write, &[answer], coverage)?;
-    setup.gives(&line, Call::Scrub { address: next }, &[answer], coverage)?;
-    setup.gives(&line, split, &[Clean, answer], coverage)?;
-    setup.gives(&line, burst, &[Clean, answer, Clean, Clean], coverage)
 }

@@ -3,10 +3,8 @@
 
 use model::code::{self, Reading, COLUMNS};
 use model::gen::Rng;
-use model::Answer::{self, Clean, Corrected, Uncorrectable};
 
-use super::miscorrections::every_call;
-use super::{cell, Setup, PATTERNS};
+use super::{cell, every_call, meaning, Setup, PATTERNS};
 use crate::coverage::Coverage;
 use crate::ways::{every_bit_of_single_calls, ways};
 
@@ -30,17 +28,6 @@ pub fn of_stored_check_bytes(rng: &mut Rng) -> Result<String, String> {
     }
     coverage.check(every_bit_of_single_calls())?;
     Ok(format!("{} patterns, each syndrome", PATTERNS.len()))
-}
-
-/// ECC-6, by a look through the columns.
-pub fn meaning(syndrome: u8) -> Answer {
-    if syndrome == 0 {
-        return Clean;
-    }
-    (0..)
-        .zip(COLUMNS)
-        .find(|&(_, column)| column == syndrome)
-        .map_or(Uncorrectable, |(bit, _)| Corrected(bit))
 }
 
 /// The columns and the readings of docs/SYNDROMES.md, against those of the model.
