@@ -60,7 +60,8 @@
  *            while all bits of both were zero, as the call was given it and not rounded down to its doubleword.
  *            Each part of a split read or write and each beat of a burst counts as a call here, with its own address
  *   F0, F1   row codes, two bits for each bank: banks 0 to 3 from the low end of F0, 4 to 7 of F1. Codes
- *            0, 1, 2, 3 mean 9, 10, 11, 12 row bits
+ *            0, 1, 2 mean 9, 10, 11 row bits; code 3 means 12 for a bank of up to 128 megabytes and 13 for a longer
+ *            one. A bank may have up to 2, 8, 32, 256 megabytes with code 0, 1, 2, 3
  *   F2       bit 3 switches memory on: write 8 for on, 0 for off, and no other value
  *
  *   80 to A0, F0 and F1 can be written only while memory is off. No other offset has a register.
@@ -77,7 +78,7 @@
 
 /* The version of this interface: a program that compiles with one compiles with every later one of the same major version. */
 #define MPC106_VERSION_MAJOR 3
-#define MPC106_VERSION_MINOR 0
+#define MPC106_VERSION_MINOR 1
 #define MPC106_VERSION_PATCH 0
 #define MPC106_VERSION (MPC106_VERSION_MAJOR * 10000 + MPC106_VERSION_MINOR * 100 + MPC106_VERSION_PATCH)
 
@@ -268,9 +269,11 @@ static inline uint32_t mpc106_judge(const mpc106_record *record)
 }
 
 /*
- * How many cells the memory has: lend MPC106_CELL_BYTES times as many bytes. It is never above 2^27.
- * An enabled bank with R row bits has 2^(R+C) cells, where C, its column bits, is the smallest of 8, 9, .., R
- * with 2^(R+C+3) >= its length in bytes; the memory has the sum of this over the enabled banks.
+ * How many cells the memory has: lend MPC106_CELL_BYTES times as many bytes. It is never above 251,658,240, which is
+ * 15 * 2^24, so that at most 2,264,924,160 bytes are lent: more than an int holds.
+ * An enabled bank with R row bits has 2^(R+C) cells, where C, its column bits, is the smallest of 8, 9, .., R (of
+ * 8, 9, .., 12 if R is 13) with 2^(R+C+3) >= its length in bytes; the memory has the sum of this over the enabled
+ * banks. A bank has at most 2^25.
  * Refused: 5.
  */
 static inline uint32_t mpc106_cell_count(const mpc106_record *record, uint32_t *count)

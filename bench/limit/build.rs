@@ -61,27 +61,32 @@ fn syndromes(columns: &[u8]) -> (Vec<usize>, Vec<String>) {
     (part, fix.iter().map(|mask| format!("{mask:#x}u")).collect())
 }
 
-/// OFF, by the enable byte: FFFF for each disabled bank; then in how many pairs of banks the first starts above the end of the second, if the
-/// enabled spans are disjoint and a disabled bank starts and ends at -1. If no bank is enabled this is a number that never occurs.
+/// In how many pairs of banks the first starts above the end of the second, if the enabled spans are disjoint and a disabled bank starts and ends
+/// at -1. If no bank is enabled this is a number that never occurs.
+fn disjoint_pairs(enabled: u32) -> u32 {
+    match enabled.count_ones() {
+        0 => 99,
+        on => on * (on - 1) / 2 + on * (8 - on),
+    }
+}
+
+/// OFF, by the enable byte: FFFF for each disabled bank; then how many lower banks are enabled, for each bank. In the first of these eight, which is
+/// always 0, the high byte has the pairs of disjoint banks.
 fn off() -> Vec<u32> {
     let of_byte = |enabled: u32| {
         let lanes = (0..8).map(move |bank| if enabled >> bank & 1 == 1 { 0 } else { 0xffff });
-        let on = enabled.count_ones();
-        let pairs = if on == 0 {
-            99
-        } else {
-            on * (on - 1) / 2 + on * (8 - on)
-        };
-        lanes.chain([pairs]).chain([0; 7])
+        let lower = (1..8).map(move |bank| (enabled & ((1 << bank) - 1)).count_ones());
+        lanes.chain([disjoint_pairs(enabled) << 8]).chain(lower)
     };
     (0..256).flat_map(of_byte).collect()
 }
 
 /// ROWS, by a byte of row codes: for its four banks the greatest length less 1, then the least size less 1.
 fn rows() -> Vec<u32> {
+    const LONGEST: [u32; 4] = [2, 8, 32, 256];
     let of_byte = |byte: u32| {
         let code = move |bank: u32| byte >> (2 * bank) & 3;
-        let longest = (0..4).map(move |bank| 2 * 4u32.pow(code(bank)) - 1);
+        let longest = (0..4).map(move |bank| LONGEST[code(bank) as usize] - 1);
         let least = (0..4).map(move |bank| 2u32.pow(code(bank)) - 1);
         longest.chain(least)
     };

@@ -122,7 +122,8 @@ uint32_t limit_map(const uint8_t *registers, uint32_t address, uint32_t *place)
     }
     uint16_t codes;
     memcpy(&codes, registers + 0xf0, 2);
-    uint32_t rows = 9 + (codes >> 2 * at.bank & 3), columns = 32 - (uint32_t)__builtin_clz(at.mask) - rows;
+    uint32_t bits = 32 - (uint32_t)__builtin_clz(at.mask);
+    uint32_t columns = bits == 25 ? 12 : bits - 9 - (codes >> 2 * at.bank & 3);
     place[0] = 1;
     place[1] = at.bank;
     place[2] = at.number >> columns;

@@ -38,6 +38,9 @@ INLINE struct location in_bank(uint32_t bank, uint32_t size, uint32_t base, uint
     return at;
 }
 
+/* The longest bank of each row code, in megabytes. */
+#define LONGEST 0x0100002000080002ull
+
 struct bank {
     uint32_t start, span, too_long, size;
 };
@@ -48,7 +51,7 @@ INLINE struct bank bank_of(const uint8_t *registers, uint32_t n, uint32_t codes)
     uint32_t code = codes >> 2 * n & 3;
     b.start = registers[0x80 + n] | (registers[0x88 + n] & 3u) << 8;
     b.span = (registers[0x90 + n] | (registers[0x98 + n] & 3u) << 8) - b.start;
-    b.too_long = 2u << 2 * code; /* an end below its start wraps around, above this */
+    b.too_long = (uint16_t)(LONGEST >> 16 * code); /* an end below its start wraps around, above this */
     uint32_t megabytes = b.span | ((1u << code) - 1);
     b.size = (1u << (31 - __builtin_clz(2 * megabytes + 1))) - 1;
     return b;
@@ -113,7 +116,8 @@ struct lanes {
     __m128i none;           /* FFFF where the bank is off */
     __m128i start, end;     /* in megabytes; -1 where the bank is off */
     __m128i longest, least; /* the longest length less 1, and the least size less 1 */
-    uint16_t disjoint;      /* how often a start is above an end, where the enabled spans are disjoint */
+    uint32_t disjoint;      /* how often a start is above an end, where the enabled spans are disjoint */
+    const uint8_t *lower;   /* how many lower banks are enabled, two bytes a bank */
 };
 
 INLINE struct lanes lanes_of(const uint8_t *registers)
@@ -128,7 +132,8 @@ INLINE struct lanes lanes_of(const uint8_t *registers)
     l.end = _mm_or_si128(_mm_and_si128(pairs(registers + 0x90, registers + 0x98), ten_bits), l.none);
     l.longest = halves(low, high);
     l.least = halves(low + 8, high + 8);
-    memcpy(&l.disjoint, off + 16, 2);
+    l.disjoint = off[17];
+    l.lower = off + 16;
     return l;
 }
 
@@ -159,7 +164,7 @@ INLINE struct location locate_in_many(const uint8_t *registers, uint32_t address
     __m128i size = filled(_mm_or_si128(span, l.least));
     _mm_store_si128((__m128i *)sizes, size);
     __m128i below = _mm_load_si128((const __m128i *)((const uint8_t *)BELOW + (lane & 14) * 8));
-    __m128i lower = _mm_and_si128(_mm_andnot_si128(l.none, _mm_sub_epi16(size, _mm_set1_epi16(-1))), below);
+    __m128i lower = _mm_and_si128(_mm_andnot_si128(l.none, size), below);
     __m128i sums = _mm_sad_epu8(_mm_packus_epi16(above, lower), zero);
 
     uint32_t meets = (uint32_t)_mm_cvtsi128_si32(sums) ^ l.disjoint;
@@ -169,7 +174,7 @@ INLINE struct location locate_in_many(const uint8_t *registers, uint32_t address
         return nowhere(UNHELD);
     uint16_t own;
     memcpy(&own, sizes + lane, 2);
-    return in_bank(lane >> 1, own, (uint32_t)_mm_extract_epi16(sums, 4), address);
+    return in_bank(lane >> 1, own, (uint32_t)_mm_extract_epi16(sums, 4) + l.lower[lane], address);
 }
 
 INLINE struct location locate(const uint8_t *registers, uint32_t address)

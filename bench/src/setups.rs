@@ -16,6 +16,11 @@ fn one_bank() -> Vec<Span> {
     vec![Span(0, 1, 0)]
 }
 
+/// 256 megabytes with 13 row bits.
+fn one_long_bank() -> Vec<Span> {
+    vec![Span(0, 255, 3)]
+}
+
 fn two_banks() -> Vec<Span> {
     vec![Span(0, 1, 0), Span(2, 4, 1)]
 }
@@ -74,6 +79,7 @@ pub fn all() -> Vec<Setup> {
     let unordered = eight_banks([3, 0, 6, 1, 7, 4, 2, 5]);
     vec![
         setup("1 bank", &one_bank(), 0),
+        setup("1 bank, 13 row bits", &one_long_bank(), 0),
         setup("2 banks, lowest", &two_banks(), 0),
         setup("2 banks, highest", &two_banks(), 1),
         setup("8 banks in order, lowest", &ordered, 0),

@@ -55,7 +55,8 @@ impl Record {
         accepted(unsafe { ffi::mpc106_raw_judge(&self.registers) })
     }
 
-    /// How many cells of [`CELL_BYTES`](crate::CELL_BYTES) the memory has, at most 2^27: refusal 5.
+    /// How many cells of [`CELL_BYTES`](crate::CELL_BYTES) the memory has, at most 251,658,240 (15 · 2^24), which have
+    /// 2,264,924,160 bytes: refusal 5.
     pub fn cell_count(&self) -> Result<u32, Refusal> {
         let mut count = [0];
         // SAFETY: the number is the call's alone.

@@ -140,7 +140,8 @@ fn lengths_that_fit() {
     assert_eq!(one_bank(0, 1).judge(), Ok(()));
     assert_eq!(one_bank(0, 2).judge(), Err(Refusal::TooLong(0)));
     assert_eq!(one_bank(3, 127).judge(), Ok(()));
-    assert_eq!(one_bank(3, 128).judge(), Err(Refusal::TooLong(0)));
+    assert_eq!(one_bank(3, 128).judge(), Ok(()));
+    assert_eq!(one_bank(3, 255).judge(), Ok(()));
 }
 
 #[test]

@@ -1,5 +1,5 @@
 -- The search for the next enabled bank: by the zeros below the lowest set digit of what is left of the enable bits, which is then cleared.
-use mathlib.Core.Path.{_≡_, sym, ap, ap₂, _∙_}
+use mathlib.Core.Path.{_≡_, refl, sym, ap, ap₂, _∙_}
 use mathlib.Core.Bool.{true, false}
 use Prim.Native.Nat.{ℕ, zero, suc, _+_, _-_, _*_, _/_, _%_, _^_, _≤_, _<_}
 use native.Mathlib.Nat.{mul-assoc, mod-self, zero-add, zero-div}
@@ -12,18 +12,6 @@ use borrow.Author.Tests.{ltb-true, ltb-false, eqb-true, eqb-false}
 use Rattle.basics.specs.Range.{first}
 use Rattle.basics.proofs.RangeLaws.{byCases, contra, first-passes, first-before, first-is}
 use Rattle.basics.proofs.Zeros.{isSet, trailing-first}
-
--- a digit of the lowest eight
-low-bit : (e j : ℕ) → j < 8 → e % 256 / 2 ^ j % 2 ≡ e / 2 ^ j % 2
-low-bit e zero h = omega arith
-low-bit e (suc zero) h = omega arith
-low-bit e (suc (suc zero)) h = omega arith
-low-bit e (suc (suc (suc zero))) h = omega arith
-low-bit e (suc (suc (suc (suc zero)))) h = omega arith
-low-bit e (suc (suc (suc (suc (suc zero))))) h = omega arith
-low-bit e (suc (suc (suc (suc (suc (suc zero)))))) h = omega arith
-low-bit e (suc (suc (suc (suc (suc (suc (suc zero))))))) h = omega arith
-low-bit e (suc (suc (suc (suc (suc (suc (suc (suc j)))))))) h = absurd (omega arith)
 
 -- ---- the lowest set digit t of x is cleared
 zeros-below : (x t : ℕ) → ((i : ℕ) → i < t → isSet x i ≡ false) → x % 2 ^ t ≡ 0
@@ -79,9 +67,8 @@ pub record Rest (e rest n : ℕ) : Type 0 where
   pub same : (j : ℕ) → n ≤ j → j < 8 → isSet rest j ≡ isSet e j
   pub none : (j : ℕ) → j < n → isSet rest j ≡ false
 
-pub rest-whole : (e : ℕ) → Rest e (e % 256) 0
-rest-whole e =
-    record { small = omega arith; same = λ j _ l. ap (λ (x : ℕ). eqb x 1) (low-bit e j l); none = λ j l. absurd (omega arith) }
+pub rest-whole : (e : ℕ) → e < 256 → Rest e e 0
+rest-whole e h = record { small = h; same = λ j _ l. refl; none = λ j l. absurd (omega arith) }
 
 module _ (e rest n : ℕ) (r : Rest e rest n) where
   -- nothing is left

@@ -22,7 +22,7 @@ use Rattle.banks.specs.Map.{mostCells, holds, bankAt, cells, share, cellsBelow}
 use Rattle.banks.specs.CodeFields.{TenBits, bankIn, enabledIn, setupIn}
 use Rattle.address_map.specs.CodeSelection.{megabyteBits, bitsUnlessFaulty, selection}
 use Rattle.banks.proofs.FieldLaws.{cells-most}
-use Rattle.banks.proofs.TakenLaws.{bank-in, bounded-in}
+use Rattle.banks.proofs.TakenLaws.{byte-after, bank-in, bounded-in}
 use Rattle.banks.proofs.AcceptedLaws.{accepted}
 use Rattle.banks.proofs.CellLaws.{bank-selected, cells-more}
 use Rattle.address_map.proofs.SizeLaws.{few-bits, cells-bits}
@@ -180,29 +180,29 @@ pub record Going (f : List ℕ) (mb rest b k z base end ascent : ℕ) : Type 0 w
   pub left : Rest (getD f 16 0) rest n
   pub passed : Passed (setupIn f) mb n b k z base end ascent
 
-pub going-start : (f : List ℕ) (mb end ascent : ℕ) → Going f mb (getD f 16 0 % 256) 8 0 0 0 end ascent
-going-start f mb end ascent =
-    record { n = 0; left = rest-whole (getD f 16 0); passed = passed-start (setupIn f) mb end ascent }
+pub going-start : (f : List ℕ) → TenBits f → (mb end ascent : ℕ) → Going f mb (getD f 16 0) 8 0 0 0 end ascent
+going-start f h mb end ascent =
+    record { n = 0; left = rest-whole (getD f 16 0) (byte-after 16 f h); passed = passed-start (setupIn f) mb end ascent }
 
 -- some bank is enabled exactly if some bit is set
-pub some-enabled : (f : List ℕ) → ((getD f 16 0 % 256 ≡ 0) → ⊥) → lowest isEnabled (setupIn f) < 8
+pub some-enabled : (f : List ℕ) → TenBits f → ((getD f 16 0 ≡ 0) → ⊥) → lowest isEnabled (setupIn f) < 8
 unfolding lowest
-some-enabled f z =
+some-enabled f h z =
     let e = getD f 16 0 in
-    let w = rest-whole e in
-    let b = next-below e (e % 256) 0 w z in
+    let w = rest-whole e (byte-after 16 f h) in
+    let b = next-below e e 0 w z in
     let m = first (λ k. isEnabled (bank (setupIn f) k)) 8 0 in
     byCases (ltb m 8) (λ t. ltb-true m 8 t)
     (λ t.
-    contra (enabled-at f (trailingZeros 32 (e % 256)) b ∙ next-on e (e % 256) 0 w z)
-    (first-before (λ k. isEnabled (bank (setupIn f) k)) 8 0 (trailingZeros 32 (e % 256)) (omega arith) (omega (arith, b, ltb-false m 8 t))))
+    contra (enabled-at f (trailingZeros 32 e) b ∙ next-on e e 0 w z)
+    (first-before (λ k. isEnabled (bank (setupIn f) k)) 8 0 (trailingZeros 32 e) (omega arith) (omega (arith, b, ltb-false m 8 t))))
 
-pub none-enabled : (f : List ℕ) → getD f 16 0 % 256 ≡ 0 → 8 ≤ lowest isEnabled (setupIn f)
+pub none-enabled : (f : List ℕ) → TenBits f → getD f 16 0 ≡ 0 → 8 ≤ lowest isEnabled (setupIn f)
 unfolding lowest
-none-enabled f z =
+none-enabled f h z =
     let e = getD f 16 0 in
     let q = first-at (λ k. isEnabled (bank (setupIn f) k)) 8 0 8 (omega arith) (omega arith) (λ w. absurd (omega arith))
-    (λ j l k. enabled-at f j k ∙ rest-none e (e % 256) 0 (rest-whole e) z j l k) in
+    (λ j l k. enabled-at f j k ∙ rest-none e e 0 (rest-whole e (byte-after 16 f h)) z j l k) in
     omega (arith, q)
 
 module _ {f : List ℕ} {mb rest b k z base end ascent : ℕ} (g : Going f mb rest b k z base end ascent) where
@@ -256,7 +256,7 @@ module _ {f : List ℕ} {mb rest b k z base end ascent : ℕ} (g : Going f mb re
           (λ v.
           let q : faulty (enabledIn f m) ≡ false = rw bank-here at v in
           let r : bits ≡ megabyteBits (enabledIn f m) = rw q at e in
-          let n : megabyteBits (enabledIn f m) ≤ 7 = rw bank-here at (few-bits (bank (setupIn f) m) (bounded-in f t m)) in
+          let n : megabyteBits (enabledIn f m) ≤ 8 = rw bank-here at (few-bits (bank (setupIn f) m) (bounded-in f t m)) in
           absurd (omega arith))
 
       module _ (w : (bits ≡ 32) → ⊥) where
@@ -266,7 +266,7 @@ module _ {f : List ℕ} {mb rest b k z base end ascent : ℕ} (g : Going f mb re
             byCases (faulty (enabledIn f m)) (λ v. absurd (w (rw v at e)))
             (λ v. let r : bits ≡ megabyteBits (enabledIn f m) = rw v at e in rw bank-here (v, r))
 
-        pub bits-most : bits ≤ 7
+        pub bits-most : bits ≤ 8
         bits-most = omega (arith, sane-here .1, few-bits (bank (setupIn f) m) (bounded-in f t m))
 
         cells-here : cells (bank (setupIn f) m) ≡ 2 ^ (17 + bits)

@@ -12,16 +12,16 @@ use Rattle.basics.proofs.RangeLaws.{byCases, never, sum-zero, sum-more}
 use Rattle.refusals.specs.Paper.{_gives_}
 use Rattle.refusals.proofs.ChainLaws.{gives-given, gives-refused}
 use Rattle.banks.specs.declared.Bank.{Bank}
-use Rattle.banks.specs.Setup.{fewestRows, Setup, bank, Bounded}
-use Rattle.banks.specs.CodeFields.{TenBits, rowsIn, enabledIn, bankIn, setupIn}
+use Rattle.banks.specs.Setup.{Setup, bank, Bounded}
+use Rattle.banks.specs.CodeFields.{TenBits, codeIn, enabledIn, bankIn, setupIn}
 use Rattle.banks.specs.Judge.{notReady}
 use Rattle.banks.specs.Map.{mostCells, bankAt, cellInBank, share, cellsBelow, inSpan, located, placeOf}
-use Rattle.address_map.specs.CodeSelection.{megabyteBits, selection, paperSelection}
+use Rattle.address_map.specs.CodeSelection.{megabyteBits, rowsByBits, selection, paperSelection}
 use Rattle.address_map.specs.declared.pass.Selection.{Selection}
 use Rattle.banks.proofs.FieldLaws.{cells-most}
 use Rattle.banks.proofs.SpanLaws.{bank-held}
 use Rattle.banks.proofs.TakenLaws.{bank-in, bounded-in}
-use Rattle.address_map.proofs.SizeLaws.{cells-bits}
+use Rattle.address_map.proofs.SizeLaws.{cells-bits, rows-by-bits}
 use Rattle.address_map.proofs.PassLaws.{enabled-at}
 
 -- the cells of banks that keep to the bounds
@@ -38,13 +38,19 @@ pub cell-is : (b : Bank) → Bounded b → (bits a : ℕ) → bits ≡ megabyteB
 unfolding cellInBank
 cell-is b h bits a e = rw (e, cells-bits b h)
 
-pub columns-are : (f : List ℕ) (n : ℕ) → TenBits f → n < 8 → bank (setupIn f) n .enabled ≡ true → 8 + megabyteBits (bank (setupIn f) n) - getD f 17 0 / 2 ^ (2 * n) % 4 ≡ bank (setupIn f) n .columns
-unfolding megabyteBits bankIn enabledIn rowsIn
+pub columns-are :
+    (f : List ℕ) (n : ℕ)
+    → TenBits f
+    → n < 8
+    → bank (setupIn f) n .enabled ≡ true
+    → 17 + megabyteBits (bank (setupIn f) n) - rowsByBits (codeIn f n) (megabyteBits (bank (setupIn f) n)) ≡ bank (setupIn f) n .columns
+unfolding megabyteBits bankIn
 columns-are f n t l on =
     let b = bounded-in f t n in
-    let s = sym (enabled-at f n l) ∙ on in
-    let e : bank (setupIn f) n .rows ≡ fewestRows + getD f 17 0 / 2 ^ (2 * n) % 4 = rw (bank-in f n l, s) in
-    omega (arith, e, b .columns-least)
+    let e : bank (setupIn f) n ≡ enabledIn f n = rw (bank-in f n l, sym (enabled-at f n l) ∙ on) in
+    let r = rw e at (b .rows-least) in
+    let c = rw e at (b .columns-least) in
+    rw (e, sym (rows-by-bits f n)) (omega (arith, r, c))
 
 abbrev tripleOf : Option (ℕ × ℕ × ℕ) → ℕ × ℕ × ℕ
 tripleOf none = (0, 0, 0)

@@ -1,125 +1,145 @@
 -- The size of a bank from the length of its span, as a number of bits, and from its row code.
-use mathlib.Core.Path.{_≡_, sym, ap, _∙_}
+use mathlib.Core.Path.{_≡_, refl, sym, ap, _∙_}
 use mathlib.Core.Bool.{true, false, cond, _&&_}
 use mathlib.Core.List.{List}
-use Prim.Native.Nat.{ℕ, _+_, _-_, _*_, _/_, _%_, _^_, _≤_, _<_}
+use Prim.Native.Nat.{ℕ, zero, suc, _+_, _-_, _*_, _/_, _%_, _^_, _≤_, _<_}
 use native.Mathlib.Omega.{arith}
-use lib.Dec.{ltb, leb}
+use lib.Dec.{ltb, leb, eqb}
 use lib.ListN.{getD}
 use lib.Pow.{pow-mono}
-use borrow.Author.Tests.{ltb-true, ltb-false, leb-true, leb-false, le-leb, lt-leb, le-ltb}
+use borrow.Author.Tests.{ltb-true, ltb-false, leb-true, leb-false, le-leb, lt-leb, lt-ltb, eqb-true}
+use Rattle.basics.proofs.Bools.{and-left, and-right}
 use Rattle.basics.proofs.RangeLaws.{byCases, contra, first-at}
 use Rattle.basics.proofs.Zeros.{greater-from, greater-holds, greater-least}
 use Rattle.banks.specs.declared.Bank.{Bank}
-use Rattle.banks.specs.Setup.{fewestRows, megabytes, fits, columnBits, Bounded}
+use Rattle.banks.specs.Setup.{fewestRows, mostRows, megabytes, rowBits, fits, columnLimit, columnBits, Bounded}
 use Rattle.banks.specs.Map.{cells}
-use Rattle.banks.specs.Judge.{inverted, tooLong, faulty}
-use Rattle.banks.specs.CodeFields.{rowsIn, enabledIn}
-use Rattle.address_map.specs.CodeSelection.{SizeBits, megabyteBits, bitsUnlessFaulty}
-use Rattle.banks.proofs.FieldLaws.{fits-in}
+use Rattle.banks.specs.CodeFields.{codeIn, longestOf, enabledIn}
+use Rattle.address_map.specs.CodeSelection.{SizeBits, megabyteBits, rowsByBits, bitsUnlessFaulty}
+use Rattle.banks.proofs.FieldLaws.{rows-by-code, rows-by-length, limit-is, fits-in, columns-to, long-columns}
+use Rattle.banks.proofs.LongestLaws.{longest-most, faulty-is}
+use Rattle.banks.proofs.TakenLaws.{code-below}
+
+-- the longest bank of the row codes that leave the row bits to the code alone
+longest-power : (code : ℕ) → code < 3 → longestOf code ≡ 2 ^ (2 * code + 1)
+unfolding longestOf
+longest-power zero h = refl
+longest-power (suc zero) h = refl
+longest-power (suc (suc zero)) h = refl
+longest-power (suc (suc (suc k))) h = absurd (omega arith)
 
 -- m is the least number of bits, and no less than the row code, that holds the span's megabytes less one
 module _ (span code m : ℕ) (from : code ≤ m) (holds : span < 2 ^ m) (least : (k : ℕ) → span < 2 ^ k → code ≤ k → m ≤ k) where
-  -- so many column bits are enough exactly from that length on
-  fits-from : (c : ℕ) → 8 ≤ c → fits (fewestRows + code) (span + 1) c ≡ leb m (fewestRows + code + c - 17)
-  fits-from c k =
-      let R = fewestRows + code in
-      let j = R + c - 17 in
-      fits-in R (span + 1) c (omega arith)
-      ∙ byCases (leb m j)
-      (λ t.
-      let p : 2 ^ m ≤ 2 ^ j = pow-mono (leb-true m j t) in
-      le-leb (span + 1) (2 ^ j) (omega (arith, holds, p)) ∙ sym t)
-      (λ t.
-      let u : leb (span + 1) (2 ^ j) ≡ false = byCases (leb (span + 1) (2 ^ j))
-      (λ v.
-      let q = least j (omega (arith, leb-true (span + 1) (2 ^ j) v)) (omega arith) in
-      absurd (omega (arith, leb-false m j t)))
-      (λ v. v) in
-      u ∙ sym t)
+  module _ (R : ℕ) (rows : fewestRows + code ≤ R) where
+    -- so many column bits are enough exactly from that length on
+    fits-from : (c : ℕ) → 8 ≤ c → fits R (span + 1) c ≡ leb m (R + c - 17)
+    fits-from c k =
+        let j = R + c - 17 in
+        fits-in R (span + 1) c (omega arith)
+        ∙ byCases (leb m j)
+        (λ t.
+        let p : 2 ^ m ≤ 2 ^ j = pow-mono (leb-true m j t) in
+        le-leb (span + 1) (2 ^ j) (omega (arith, holds, p)) ∙ sym t)
+        (λ t.
+        let u : leb (span + 1) (2 ^ j) ≡ false = byCases (leb (span + 1) (2 ^ j))
+        (λ v.
+        let q = least j (omega (arith, leb-true (span + 1) (2 ^ j) v)) (omega arith) in
+        absurd (omega (arith, leb-false m j t)))
+        (λ v. v) in
+        u ∙ sym t)
 
-  -- the bank is not too long exactly if that number of bits is at most 2 R - 17
-  pub size-room : leb m (2 * code + 1) ≡ fits (fewestRows + code) (span + 1) (fewestRows + code)
-  size-room =
-      let e : fewestRows + code + (fewestRows + code) - 17 ≡ 2 * code + 1 = omega arith in
-      sym (fits-from (fewestRows + code) (omega arith) ∙ ap (leb m) e)
+    -- if there is room, rows and columns number 2 ^ (17 + m) doublewords
+    columns-number : R ≤ fewestRows + m → 17 + m ≤ R + columnLimit R → 17 + m ≡ R + columnBits R (span + 1)
+    unfolding columnBits
+    columns-number few room =
+        let c = 17 + m - R in
+        let e = first-at (fits R (span + 1)) (columnLimit R) 8 c (omega arith) (omega arith)
+        (λ _. fits-from c (omega arith) ∙ le-leb m (R + c - 17) (omega arith))
+        (λ j p q. fits-from j p ∙ lt-leb m (R + j - 17) (omega arith)) in
+        rw e (omega arith)
 
-  -- and then its rows and columns number 2 ^ (17 + m) doublewords
-  pub size-bits : m ≤ 2 * code + 1 → 17 + m ≡ fewestRows + code + columnBits (fewestRows + code) (span + 1)
-  unfolding columnBits
-  size-bits k =
+    -- m tells the size of a span with R row bits and room
+    size-at : rowBits code (span + 1) ≡ R → R ≤ fewestRows + m → 17 + m ≤ R + columnLimit R → SizeBits span code m
+    size-at r few room = λ _. rw r (columns-number few room)
+
+  -- row code 3, and more than 128 megabytes
+  size-long : code ≡ 3 → 128 < span + 1 → span < 256 → SizeBits span code m
+  unfolding columnLimit
+  size-long e l h =
+      let many : 8 ≤ m = byCases (ltb m 8)
+      (λ t. let p : 2 ^ m ≤ 2 ^ 7 = pow-mono {j = 7} (omega (arith, ltb-true m 8 t)) in absurd (omega (arith, holds, p)))
+      (λ t. ltb-false m 8 t) in
+      let most : m ≤ 8 = least 8 h (omega arith) in
+      size-at mostRows (omega arith) (rw e (rows-by-length (span + 1) l)) (omega arith) (omega arith)
+
+  -- the row bits of the code alone
+  size-short : (k : ℕ) → (128 < span + 1 → code ≡ 3 → ⊥) → code < 4 → span < 2 ^ k → code ≤ k → k ≤ 2 * code + 1 → SizeBits span code m
+  size-short k short l h c r =
       let R = fewestRows + code in
-      let c = m + 8 - code in
-      let e = first-at (fits R (span + 1)) R 8 c (omega arith) (omega arith)
-      (λ _. fits-from c (omega arith) ∙ le-leb m (R + c - 17) (omega arith))
-      (λ j p q. fits-from j p ∙ lt-leb m (R + j - 17) (omega arith)) in
-      rw e (omega arith)
+      size-at R (omega arith) (rows-by-code code (span + 1) short) (omega arith)
+      (omega (arith, limit-is R (omega arith), least k h c))
+
+  size-other : code < 3 → span < longestOf code → SizeBits span code m
+  size-other l h = size-short (2 * code + 1) (λ _ e. omega arith) (omega arith) (rw (longest-power code l) at h) (omega arith) (omega arith)
+
+  pub size-of : code < 4 → SizeBits span code m
+  size-of l h =
+      byCases (ltb code 3) (λ t. size-other (ltb-true code 3 t) h h)
+      (λ t.
+      let e : code ≡ 3 = omega (arith, ltb-false code 3 t) in
+      let most : span < 256 = omega (arith, longest-most code l, h) in
+      byCases (ltb 128 (span + 1))
+      (λ u. size-long e (ltb-true 128 (span + 1) u) most h)
+      (λ u. let v = ltb-false 128 (span + 1) u in size-short 7 (λ k _. omega (arith, k, v)) l (omega (arith, v)) (omega arith) (omega arith) h))
 
 -- that number is the greater of the row code and the length of the span
-pub size-is : (span code j : ℕ) → span < 2 ^ j → 2 ^ j ≤ 2 * span + 1 → SizeBits span code (cond (ltb j code) code j)
-size-is span code j h l =
-    let m = cond (ltb j code) code j in
-    let from = greater-from span code j h l in
-    let holds = greater-holds span code j h l in
-    let least = greater-least span code j h l in
-    record { room = size-room span code m from holds least; bits = size-bits span code m from holds least }
+pub size-is : (span code j : ℕ) → code < 4 → span < 2 ^ j → 2 ^ j ≤ 2 * span + 1 → SizeBits span code (cond (ltb j code) code j)
+size-is span code j c h l =
+    size-of span code (cond (ltb j code) code j) (greater-from span code j h l) (greater-holds span code j h l) (greater-least span code j h l) c
 
 -- ---- the bits of an enabled bank; w is its last megabyte less its start, modulo 2 ^ 32
-module _ (f : List ℕ) (n w k : ℕ) where
-  abbrev start : ℕ
-  start = getD f n 0
-
-  abbrev last : ℕ
-  last = getD f (8 + n) 0
-
-  abbrev code : ℕ
-  code = getD f 17 0 / 2 ^ (2 * n) % 4
-
-  module _ (x : start < 1024) (y : last < 1024) (v : w < 2 ^ 32) (d : (w + start) % 2 ^ 32 ≡ last) (z : SizeBits (w % 2 ^ 31) code k) where
-    -- a difference that wraps is too long for any bank
-    forward : k ≤ 2 * code + 1 → start ≤ last
-    forward q =
-        let R = fewestRows + code in
-        let L = w % 2 ^ 31 + 1 in
-        byCases (ltb last start)
-        (λ t.
-        let l = ltb-true last start t in
-        let p : 2 ^ (R + R - 17) ≤ 2 ^ 7 = pow-mono {j = 7} (omega arith) in
-        let u = fits-in R L R (omega arith) ∙ lt-leb L (2 ^ (R + R - 17)) (omega (arith, p, l)) in
-        contra (sym (z .room) ∙ le-leb k (2 * code + 1) q) u)
-        (λ t. ltb-false last start t)
-
-    bits-fit : k ≤ 2 * code + 1 → bitsUnlessFaulty (enabledIn f n) ≡ k
-    unfolding bitsUnlessFaulty megabyteBits faulty inverted tooLong enabledIn rowsIn megabytes
-    bits-fit q =
-        let o = forward q in
-        let e : last + 1 - start ≡ w % 2 ^ 31 + 1 = omega (arith, o) in
-        let t : fits (fewestRows + code) (w % 2 ^ 31 + 1) (fewestRows + code) ≡ true = sym (z .room) ∙ le-leb k (2 * code + 1) q in
-        rw (le-ltb last start o, e, t) (omega (arith, z .bits q))
-
-    bits-long : 2 * code + 1 < k → bitsUnlessFaulty (enabledIn f n) ≡ 32
-    unfolding bitsUnlessFaulty faulty inverted tooLong enabledIn rowsIn megabytes
-    bits-long q =
-        byCases (ltb last start) (λ u. rw u)
-        (λ u.
-        let e : last + 1 - start ≡ w % 2 ^ 31 + 1 = omega (arith, ltb-false last start u) in
-        let t : fits (fewestRows + code) (w % 2 ^ 31 + 1) (fewestRows + code) ≡ false = sym (z .room) ∙ lt-leb k (2 * code + 1) q in
-        rw (u, e, t))
-
-    pub bits-are : cond (leb k (2 * code + 1)) k 32 ≡ bitsUnlessFaulty (enabledIn f n)
-    bits-are =
-        byCases (leb k (2 * code + 1))
-        (λ t. rw (t, bits-fit (leb-true k (2 * code + 1) t)))
-        (λ t. rw (t, bits-long (leb-false k (2 * code + 1) t)))
+module _
+    (f : List ℕ) (n w k : ℕ) (x : getD f n 0 < 1024) (y : getD f (8 + n) 0 < 1024) (v : w < 2 ^ 32) (d : (w + getD f n 0) % 2 ^ 32 ≡ getD f (8 + n) 0)
+    (z : SizeBits (w % 2 ^ 31) (codeIn f n) k) where
+  pub bits-are : cond (ltb w (longestOf (codeIn f n))) k 32 ≡ bitsUnlessFaulty (enabledIn f n)
+  unfolding bitsUnlessFaulty megabyteBits enabledIn megabytes
+  bits-are =
+      let start = getD f n 0 in
+      let last = getD f (8 + n) 0 in
+      let m = longestOf (codeIn f n) in
+      let faulty = faulty-is f n w x y v d in
+      byCases (ltb w m)
+      (λ t.
+      let l = ltb-true w m t in
+      let e : last + 1 - start ≡ w % 2 ^ 31 + 1 = omega (arith, l, longest-most (codeIn f n) (code-below f n)) in
+      rw (t, faulty, lt-leb m w l, e) (omega (arith, z (omega (arith, l)))))
+      (λ t. rw (t, faulty, le-leb m w (ltb-false w m t)))
 
 -- ---- the bits of a bank that keeps to the bounds
-pub few-bits : (b : Bank) → Bounded b → megabyteBits b ≤ 7
+pub few-bits : (b : Bank) → Bounded b → megabyteBits b ≤ 8
 unfolding megabyteBits
 few-bits b h = omega arith
 
 pub cells-bits : (b : Bank) → Bounded b → cells b ≡ 2 ^ (17 + megabyteBits b)
 unfolding cells megabyteBits
 cells-bits b h = ap (λ (x : ℕ). 2 ^ x) (omega arith)
+
+-- the row bits of an enabled bank, by those bits
+pub rows-by-bits : (f : List ℕ) (n : ℕ) → enabledIn f n .rows ≡ rowsByBits (codeIn f n) (megabyteBits (enabledIn f n))
+unfolding enabledIn megabyteBits rowsByBits
+rows-by-bits f n =
+    let L = megabytes (getD f n 0) (getD f (8 + n) 0) in
+    let code = codeIn f n in
+    let R = fewestRows + code in
+    byCases (eqb code 3 && ltb 128 L)
+    (λ t.
+    let e = eqb-true code 3 (and-left (eqb code 3) (ltb 128 L) t) in
+    let l = ltb-true 128 L (and-right (eqb code 3) (ltb 128 L) t) in
+    rw (e, rows-by-length L l, long-columns L l))
+    (λ t.
+    let c = columns-to R L (omega arith) in
+    let r = rows-by-code code L (λ l e. contra (rw (e, lt-ltb 128 L l)) t) in
+    rw r (omega (arith, c, code-below f n)))
 
 -- ---- a span holds a megabyte, by one comparison; w is the megabyte less the start, modulo 2 ^ 32
 pub within-is :

@@ -1,27 +1,31 @@
 -- What the pass finds, for the contracts of its functions.
-use Prim.Native.Nat.{ℕ, _+_, _-_, _*_, _≤_}
+use Prim.Native.Nat.{ℕ, _+_, _-_, _/_, _<_}
 use mathlib.Core.Path.{_≡_}
 use mathlib.Core.Bool.{cond}
 use mathlib.Core.Option.{Option, none, some}
-use lib.Dec.{ltb, leb}
+use lib.Dec.{ltb}
 use Rattle.refusals.specs.Paper.{paper, Outcome, refused, given}
 use Rattle.refusals.specs.declared.Refusal.the-variants.{NotReady}
 use Rattle.banks.specs.declared.Bank.{Bank}
-use Rattle.banks.specs.Setup.{fewestRows, Setup, fits, columnBits, bank}
+use Rattle.banks.specs.Setup.{Setup, fewestRows, rowBits, columnBits, bank}
+use Rattle.banks.specs.CodeFields.{longestOf}
 use Rattle.banks.specs.Judge.{faulty}
 use Rattle.banks.specs.Map.{bankAt, cellsBelow}
 use Rattle.address_map.specs.declared.pass.Selection.{Selection}
 
--- what k says about a span of span + 1 megabytes with this row code: whether the span fits, and if it does, that the bank has 2 ^ (17 + k) cells
-pub record SizeBits (span code k : ℕ) : Type 0 where
-  pub room : leb k (2 * code + 1) ≡ fits (fewestRows + code) (span + 1) (fewestRows + code)
-  pub bits : k ≤ 2 * code + 1 → 17 + k ≡ fewestRows + code + columnBits (fewestRows + code) (span + 1)
+-- if a span of span + 1 megabytes with this row code is not too long, its bank has 2 ^ (17 + k) cells
+abbrev pub SizeBits : ℕ → ℕ → ℕ → Type 0
+SizeBits span code k = span < longestOf code → 17 + k ≡ rowBits code (span + 1) + columnBits (rowBits code (span + 1)) (span + 1)
 
 -- how many bits number the megabytes of a bank's cells
 unfoldable pub megabyteBits : Bank → ℕ
 megabyteBits b = b .rows + b .columns - 17
 
--- the same, or 32 where the bank is faulty
+-- the row bits of a bank with this row code, by those bits
+unfoldable pub rowsByBits : ℕ → ℕ → ℕ
+rowsByBits code bits = fewestRows + code + bits / 8
+
+-- how many bits number the megabytes of a bank's cells, or 32 where the bank is faulty
 unfoldable pub bitsUnlessFaulty : Bank → ℕ
 bitsUnlessFaulty b = cond (faulty b) 32 (megabyteBits b)
 

@@ -2,19 +2,19 @@
 ghost use mathlib.Core.Path.{_≡_};
 ghost use mathlib.Core.Bool.{true};
 ghost use Prim.Native.Nat.{_+_, _/_, _%_, _^_, _≤_, _<_};
-ghost use Rattle.banks.specs.Setup.{bank};
+ghost use Rattle.banks.specs.Setup.{mostRows, mostColumns, bank};
 ghost use Rattle.banks.specs.CodeFields.{TenBits, setupIn};
 ghost use Rattle.banks.specs.Map.{paperMapping, mostCells, cellsBelow, placeOf, mapped, paperTarget, cellOf, paperCount, cellCount};
 ghost use Rattle.banks.specs.Judge.{notReady};
 ghost use Rattle.refusals.specs.Paper.{_gives_};
-ghost use Rattle.address_map.specs.CodeSelection.{megabyteBits};
+ghost use Rattle.address_map.specs.CodeSelection.{megabyteBits, rowsByBits};
 use crate::fields::row_code;
 use crate::pass::NO_BANK;
 use crate::pass::power;
 use crate::pass::select;
 use banks::CellCount;
 use banks::Column;
-use banks::FEWEST_COLUMNS;
+use banks::FEWEST_ROWS;
 use banks::FIELDS;
 use banks::MEGABYTE;
 use banks::Mapping;
@@ -26,20 +26,38 @@ use refusals::Refusal;
 // MAP-3: the number of an address's cell within a bank of 2^(17 + bits) cells, from the whole address and not from its distance to the bank's
 // start.
 fn cell_in_bank(bits: u32, address: u32) -> u32
-    requires { ⌜ bits ≤ 7 ⌝ }
+    requires { ⌜ bits ≤ 8 ⌝ }
     ensures { λ w. ⌜ w ≡ address / 8 % 2 ^ (17 + bits) ⌝ }
     ensures bound { λ w. ⌜ w < mostCells ⌝ }
 {
     address >> 3 & (power(MEGABYTE + bits) - 1)
 }
 
+// REG-13: the row bits of a bank with this row code, of which `bits` bits number the megabytes: eight bits only with the thirteenth row bit.
+fn row_bits(code: u32, bits: u32) -> u32
+    requires { ⌜ (code < 4) × (bits ≤ 8) ⌝ }
+    ensures { λ r. ⌜ r ≡ rowsByBits code bits ⌝ }
+    ensures bound { λ r. ⌜ r ≤ mostRows ⌝ }
+{
+    FEWEST_ROWS + code + (bits >> 3)
+}
+
+// REG-14: the column bits of the enabled bank n.
+fn column_bits(fields: &[u16; FIELDS], n: u32, bits: u32) -> u32
+    requires { ⌜ TenBits (now fields) × (n < 8) × (bank (setupIn (now fields)) n .enabled ≡ true) × (bits ≡ megabyteBits (bank (setupIn (now fields)) n)) × (bits ≤ 8) ⌝ }
+    ensures { λ c. ⌜ c ≡ bank (setupIn (now (fields .entry))) n .columns ⌝ }
+    ensures bound { λ c. ⌜ c ≤ mostColumns ⌝ }
+{
+    MEGABYTE + bits - row_bits(row_code(fields, n), bits)
+}
+
 // The place of an address in the enabled bank n, whose first cell is cell number `base`.
 fn place_in(fields: &[u16; FIELDS], n: u32, base: u32, bits: u32, address: u32) -> Place
-    requires { ⌜ TenBits (now fields) × (n < 8) × (bank (setupIn (now fields)) n .enabled ≡ true) × (base ≡ cellsBelow (setupIn (now fields)) n) × (bits ≡ megabyteBits (bank (setupIn (now fields)) n)) × (bits ≤ 7) ⌝ }
+    requires { ⌜ TenBits (now fields) × (n < 8) × (bank (setupIn (now fields)) n .enabled ≡ true) × (base ≡ cellsBelow (setupIn (now fields)) n) × (bits ≡ megabyteBits (bank (setupIn (now fields)) n)) × (bits ≤ 8) ⌝ }
     ensures { λ p. ⌜ p ≡ placeOf (setupIn (now (fields .entry))) n address ⌝ }
 {
     let w = cell_in_bank(bits, address);
-    let columns = FEWEST_COLUMNS + bits - row_code(fields, n);
+    let columns = column_bits(fields, n, bits);
     Place {
         bank: n as u8,
         row: Row(w >> columns),

@@ -1,10 +1,10 @@
 // The numbers that describe the banks, taken out of the register bytes once and lent to every function. A record or a struct of banks would
 // be copied at each call, and without the numbers a bank would be decoded again each time it is needed.
 ghost use mathlib.Core.Path.{_≡_};
-ghost use Prim.Native.Nat.{_+_, _*_, _/_, _%_, _^_, _<_};
+ghost use Prim.Native.Nat.{_+_, _<_};
 ghost use lib.ListN.{getD};
 ghost use Rattle.banks.specs.Setup.{setupOf, bank};
-ghost use Rattle.banks.specs.CodeFields.{TenBits, setupIn};
+ghost use Rattle.banks.specs.CodeFields.{TenBits, codeIn, setupIn};
 use banks::CODES;
 use banks::ENABLE;
 use banks::FIELDS;
@@ -49,7 +49,8 @@ pub(crate) fn last_of(fields: &[u16; FIELDS], n: u32) -> u32
 
 pub(crate) fn row_code(fields: &[u16; FIELDS], n: u32) -> u32
     requires { ⌜ n < 8 ⌝ }
-    ensures { λ k. ⌜ k ≡ getD (now (fields .entry)) 17 0 / 2 ^ (2 * n) % 4 ⌝ }
+    ensures { λ k. ⌜ k ≡ codeIn (now (fields .entry)) n ⌝ }
+    ensures bound { λ k. ⌜ k < 4 ⌝ }
 {
     (fields[CODES] >> (2 * n) & 3) as u32
 }

@@ -77,6 +77,7 @@ fn digits(x: u32) -> u32
 
 // How many bits it takes to number the megabytes of a bank's cells, if its span has `span` + 1 megabytes: at least the row code.
 fn size_bits(span: u32, code: u32) -> u32
+    requires { ⌜ code < 4 ⌝ }
     ensures { λ k. ⌜ SizeBits (span % 2 ^ 31) code k ⌝ }
 {
     let k = digits(span);
@@ -92,7 +93,7 @@ fn bits_of(fields: &[u16; FIELDS], n: u32) -> u32
     let code = row_code(fields, n);
     let span = wrapping_sub_u32(last_of(fields, n), start_of(fields, n));
     let bits = size_bits(span, code);
-    choose(bits <= 2 * code + 1, bits, FAULTY)
+    choose(span < banks::longest(code), bits, FAULTY)
 }
 
 // Whether a span holds a megabyte, by one comparison: the difference of one below the start wraps.
@@ -155,7 +156,7 @@ pub(crate) fn select(fields: &[u16; FIELDS], mb: u32) -> Selection
         return not_ready();
     }
     // The enable bits of banks that are not passed.
-    let mut rest = (fields[ENABLE] % 256) as u32;
+    let mut rest = fields[ENABLE] as u32;
     if rest == 0 {
         return not_ready();
     }

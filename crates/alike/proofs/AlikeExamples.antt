@@ -12,7 +12,7 @@ use Rattle.basics.proofs.RangeLaws.{every-at}
 use Rattle.refusals.specs.Paper.{given}
 use Rattle.registers.specs.Record.{at, fresh, stored}
 use Rattle.registers.specs.declared.Registers.{Registers}
-use Rattle.banks.specs.Setup.{Setup, startOf, lastOf, enabledOf, rowBits, megabytes, fits, columnBits, enabledBank, bankOf, setupOf, bank, Bounded}
+use Rattle.banks.specs.Setup.{Setup, startOf, lastOf, enabledOf, rowCode, megabytes, rowBits, fits, columnLimit, columnBits, enabledBank, bankOf, setupOf, bank, Bounded}
 use Rattle.banks.specs.Judge.{lowest, inverted, tooLong, faulty, meets, meetsLower, lowestMeeting, judged, ready, notReady}
 use Rattle.banks.specs.Map.{holds, bankAt, cells, cellInBank, rowOf}
 use Rattle.alike.specs.Alike.{alike, compared}
@@ -51,11 +51,11 @@ compared-to m c d l p q =
     alike-within (oneMegabyteSetup m c) (oneMegabyteSetup m d) (banks-bounded m c p) (banks-bounded m d q) (m + 1) (omega arith) (banks-end m c p) (banks-end m d q)
 
 all-ready : (notReady (oneMegabyteSetup 0 0) ≡ none) × (notReady (oneMegabyteSetup 0 1) ≡ none) × (notReady (oneMegabyteSetup 1 0) ≡ none) × (notReady (oneMegabyteSetup 1 1) ≡ none)
-unfolding first firstOf startOf lastOf enabledOf rowBits megabytes fits columnBits enabledBank bankOf setupOf lowest inverted tooLong faulty meets meetsLower lowestMeeting judged ready notReady
+unfolding first firstOf startOf lastOf enabledOf rowCode megabytes rowBits fits columnLimit columnBits enabledBank bankOf setupOf lowest inverted tooLong faulty meets meetsLower lowestMeeting judged ready notReady
 all-ready = (refl, refl, refl, refl)
 
 both-computed : (alike (oneMegabyteSetup 0 0) (oneMegabyteSetup 0 1) ≡ true) × (alike (oneMegabyteSetup 1 0) (oneMegabyteSetup 1 1) ≡ false)
-unfolding every first firstOf startOf lastOf enabledOf rowBits megabytes fits columnBits enabledBank bankOf setupOf lowest holds bankAt cells cellInBank rowOf samePart sameMegabyte
+unfolding every first firstOf startOf lastOf enabledOf rowCode megabytes rowBits fits columnLimit columnBits enabledBank bankOf setupOf lowest holds bankAt cells cellInBank rowOf samePart sameMegabyte
 both-computed = (
   compared-to 0 0 1 (omega arith) (record { bytes = refl; ends = refl }) (record { bytes = refl; ends = refl }),
   compared-to 1 0 1 (omega arith) (record { bytes = refl; ends = refl }) (record { bytes = refl; ends = refl }),

@@ -1,9 +1,11 @@
 pub mod RowLaws
 pub mod FieldLaws
 pub mod TakenLaws
+pub mod LongestLaws
 pub mod StoreLaws
 pub mod SpanLaws
 pub mod AcceptedLaws
 pub mod CellLaws
+pub mod CountLaws
 pub mod MegabyteLaws
 pub mod MapLaws

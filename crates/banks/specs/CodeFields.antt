@@ -7,7 +7,7 @@ use lib.Dec.{eqb}
 use Rattle.registers.specs.Record.{at}
 use Rattle.registers.specs.declared.Registers.{Registers}
 use Rattle.banks.specs.declared.Bank.{Bank}
-use Rattle.banks.specs.Setup.{Setup, fewestRows, startOf, lastOf, bankFrom, offBank}
+use Rattle.banks.specs.Setup.{Setup, startOf, lastOf, bankFrom, offBank}
 
 -- eight starts, eight last megabytes, the bank enables, both bytes of row codes, and F2
 unfoldable pub fieldsOf : Registers → List ℕ
@@ -33,13 +33,17 @@ fieldsOf r =
     ∷ at r 0xF2
     ∷ []
 
--- the row bits of bank n
-unfoldable pub rowsIn : List ℕ → ℕ → ℕ
-rowsIn f n = fewestRows + getD f 17 0 / 2 ^ (2 * n) % 4
+-- the row code of bank n
+unfoldable pub codeIn : List ℕ → ℕ → ℕ
+codeIn f n = getD f 17 0 / 2 ^ (2 * n) % 4
+
+-- the longest bank of a row code, in megabytes
+unfoldable pub longestOf : ℕ → ℕ
+longestOf code = getD (2 ∷ 8 ∷ 32 ∷ 256 ∷ []) code 0
 
 -- bank n, as it is when enabled
 unfoldable pub enabledIn : List ℕ → ℕ → Bank
-enabledIn f n = bankFrom (getD f n 0) (getD f (8 + n) 0) (rowsIn f n)
+enabledIn f n = bankFrom (getD f n 0) (getD f (8 + n) 0) (codeIn f n)
 
 -- bank n
 unfoldable pub bankIn : List ℕ → ℕ → Bank
@@ -53,12 +57,13 @@ setupIn f =
       banks = bankIn f 0 ∷ bankIn f 1 ∷ bankIn f 2 ∷ bankIn f 3 ∷ bankIn f 4 ∷ bankIn f 5 ∷ bankIn f 6 ∷ bankIn f 7 ∷ [];
     }
 
--- the first k numbers have ten bits
+-- the first k numbers have ten bits, and the next has eight
 abbrev pub FirstTenBits : ℕ → List ℕ → Type 0
-FirstTenBits zero f = Unit {0}
+FirstTenBits zero [] = Unit {0}
+FirstTenBits zero (x ∷ xs) = x < 256
 FirstTenBits (suc k) [] = Unit {0}
 FirstTenBits (suc k) (x ∷ xs) = (x < 1024) × FirstTenBits k xs
 
--- the sixteen starts and last megabytes have ten bits each
+-- the sixteen starts and last megabytes have ten bits each, and the bank enables have eight
 abbrev pub TenBits : List ℕ → Type 0
 TenBits f = FirstTenBits 16 f

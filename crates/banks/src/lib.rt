@@ -1,8 +1,9 @@
 // The banks of a record, and when it may be switched on; the types of the map.
 ghost use mathlib.Core.Path.{_≡_};
+ghost use Prim.Native.Nat.{_%_};
 ghost use Rattle.refusals.specs.Paper.{paperVerdict};
 ghost use Rattle.banks.specs.Setup.{setupOf, bank};
-ghost use Rattle.banks.specs.CodeFields.{fieldsOf};
+ghost use Rattle.banks.specs.CodeFields.{fieldsOf, longestOf};
 ghost use Rattle.banks.specs.Judge.{judged, ready};
 use refusals::Refusal;
 use refusals::Verdict;
@@ -11,11 +12,11 @@ use registers::Registers;
 mod judging;
 mod setup;
 
+// ON-3: the longest bank of each row code, in megabytes.
+const LONGEST: [u16; 4] = [2, 8, 32, 256];
+
 // The row bits of code 0.
 pub const FEWEST_ROWS: u32 = 9;
-
-// The fewest column bits that a bank can have.
-pub const FEWEST_COLUMNS: u32 = 8;
 
 // How many bits number the doublewords of a megabyte.
 pub const MEGABYTE: u32 = 17;
@@ -105,6 +106,13 @@ pub fn decode_bank(r: Registers, n: u32) -> Bank
         return setup::bank_of(&fields, n as u8);
     }
     setup::off_bank()
+}
+
+// ON-3: the longest bank of a row code, in megabytes.
+pub fn longest(code: u32) -> u32
+    ensures { λ k. ⌜ k ≡ longestOf (code % 4) ⌝ }
+{
+    LONGEST[(code % 4) as usize] as u32
 }
 
 // The numbers that describe the banks of a record, for code that reads several banks at once.

@@ -7,7 +7,7 @@ use mathlib.Core.Option.{Option, none, some}
 use lib.ListN.{replicate}
 use Rattle.basics.specs.Range.{firstOf, first, sum}
 use Rattle.refusals.specs.Paper.{refused, given}
-use Rattle.banks.specs.Setup.{startOf, lastOf, enabledOf, rowBits, megabytes, fits, columnBits, enabledBank, bankOf, setupOf}
+use Rattle.banks.specs.Setup.{startOf, lastOf, enabledOf, rowCode, megabytes, rowBits, fits, columnLimit, columnBits, enabledBank, bankOf, setupOf}
 use Rattle.banks.specs.Judge.{lowest, inverted, tooLong, faulty, faultOf, meets, meetsLower, lowestMeeting, judged, ready, notReady}
 use Rattle.banks.specs.Map.{holds, bankAt, cells, cellInBank, rowOf, columnOf, share, cellsBelow, placeOf, inSpan, located, cellOf}
 use Rattle.register_calls.specs.Calls.{listed, readOnly, badValue, locked, clearing, switchesOn, declined, newByte, written}
@@ -230,7 +230,7 @@ pub record Computed : Type 0 where
   pub long-flat : flatRun spans blank longList .0 ≡ longAnswers
 
 pub computed : Computed
-unfolding bankOff bankOn startOf lastOf enabledOf rowBits megabytes fits columnBits enabledBank bankOf setupOf firstOf first sum lowest inverted tooLong
+unfolding bankOff bankOn startOf lastOf enabledOf rowCode megabytes rowBits fits columnLimit columnBits enabledBank bankOf setupOf firstOf first sum lowest inverted tooLong
     faulty faultOf meets meetsLower lowestMeeting judged ready notReady holds bankAt cells cellInBank rowOf columnOf share cellsBelow placeOf inSpan located
     cellOf listed readOnly badValue locked clearing switchesOn declined newByte written bitAt dataBit flipColumn xorOf checkOf syndromeOf bitReading readingOf
     maskOf flipBit encode rightBy cellReading loadOf cellAt putCell isLent bitSet undetected withErrorAddress detected triggered rose counted reported beatAddress crosses

@@ -1,5 +1,5 @@
 // EX-4 to EX-8: prints where the addresses of the worked examples are kept, and how addresses are mapped at the end of
-// a bank whose last megabyte is 255, 256 or 1023 (REG-5).
+// a bank whose last megabyte is 255, 256 or 1023 (REG-5), and in a bank with thirteen row bits (REG-13).
 use banks::Column;
 use banks::Mapping;
 use banks::Place;
@@ -100,6 +100,19 @@ fn print_end(last: u32, end: u32, next: u32) {
     print_map(r, next);
 }
 
+// EX-12: a bank of 256 megabytes from megabyte 1 on, with row code 3.
+fn print_thirteen_rows() {
+    let span = set_span(Registers::fresh(), 0, 1, 256);
+    let r = switch_on(set(span, Registers::ROW_CODES, 3), 1);
+    io::write_all(1, b"bank 0 from MB 1 to 256, row code 3\n");
+    print_map(r, 0x00100000);
+    print_map(r, 0x0fffffff);
+    print_map(r, 0x100fffff);
+    print_map(r, 0x10100000);
+    print_way_back(r, 0, 8191, 4095);
+    print_way_back(r, 0, 8192, 0);
+}
+
 fn main() {
     let r = worked_record();
     print_map(r, 0x00001008);
@@ -111,4 +124,5 @@ fn main() {
     print_end(255, 0x0fffffff, 0x10000000);
     print_end(256, 0x100fffff, 0x10100000);
     print_end(1023, 0x3fffffff, 0x40000000);
+    print_thirteen_rows();
 }

@@ -1,1 +1,2 @@
 pub mod TwoBanks
+pub mod OneBank

@@ -50,6 +50,20 @@ pub fn mostly_on(rng: &mut Rng) -> Record {
     record
 }
 
+/// Enables a bank with this span and row code.
+pub fn set_bank(record: &mut Record, n: u8, start_mb: u32, last_mb: u32, row_code: u8) {
+    let [start, start_extended, ..] = start_mb.to_le_bytes();
+    let [last, last_extended, ..] = last_mb.to_le_bytes();
+    record.set(offset::START + n, start);
+    record.set(offset::START_EXTENDED + n, start_extended);
+    record.set(offset::LAST + n, last);
+    record.set(offset::LAST_EXTENDED + n, last_extended);
+    let codes = offset::ROW_CODES_LOW + n / 4;
+    record.set(codes, record.at(codes) | row_code << (2 * (n % 4)));
+    let enables = record.at(offset::BANK_ENABLES) | 1 << n;
+    record.set(offset::BANK_ENABLES, enables);
+}
+
 fn refused_but_on(rng: &mut Rng) -> Record {
     let mut record = setups::refused_draft(rng);
     record.set(offset::SWITCH, SWITCH_ON);

@@ -1,5 +1,5 @@
 //! Compares the proved library and `busline` with the second model, on seeded
-//! random inputs and on the worked examples (EX-1 to EX-11).
+//! random inputs and on the worked examples (EX-1 to EX-12).
 //!
 //! `compare [NAME...]` runs all tests or the named ones. `COMPARE_SEED` sets
 //! the seed, `BUSLINE` the path of the program. One line for each test, then `N

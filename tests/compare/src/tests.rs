@@ -5,6 +5,7 @@ mod examples;
 mod flipped_bit;
 mod limit;
 mod lists;
+mod long_banks;
 mod map;
 mod memory;
 mod registers;
@@ -47,6 +48,11 @@ pub const TESTS: &[Test] = &[
     test("way-back", |rng, _| map::way_back(rng)),
     test("alike", |rng, _| map::alike(rng)),
     test("alike-exhaustive", |rng, _| map::alike_exhaustive(rng)),
+    test("long-banks", |_, _| long_banks::alone()),
+    test("long-banks-together", |rng, _| long_banks::together(rng)),
+    test("long-banks-most-cells", |rng, _| {
+        long_banks::every_cell_lent(rng)
+    }),
     test("memory", |rng, _| memory::few_cells(rng)),
     test("memory-two-banks", |rng, _| memory::two_banks(rng)),
     test("every-flip", |rng, _| memory::every_flip(rng)),
@@ -77,6 +83,7 @@ pub const TESTS: &[Test] = &[
     test("wrapper", |rng, _| wrapper::beside_the_library(rng)),
     test("limit", |rng, _| limit::beside_the_library(rng)),
     test("lists", |rng, _| lists::against_flat_machine(rng)),
+    test("lists-long-banks", |rng, _| lists::in_long_banks(rng)),
     test("scripts", scripts::random_scripts),
     test("scripts-mangled", scripts::mangled_scripts),
     test("scripts-short", scripts::short_scripts),

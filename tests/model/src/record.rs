@@ -1,34 +1,20 @@
 //! The register record: 256 bytes, the fields of a bank, and the register
 //! calls.
 
+pub mod offset;
+
 use crate::map;
 use crate::refusal::Refusal;
+use offset::*;
 
 /// Number of banks.
 pub const BANKS: u8 = 8;
 
-/// Offsets of the listed registers. If there is one register for each bank, the
-/// constant is that of bank 0.
-pub mod offset {
-    pub const START: u8 = 0x80;
-    pub const START_EXTENDED: u8 = 0x88;
-    pub const LAST: u8 = 0x90;
-    pub const LAST_EXTENDED: u8 = 0x98;
-    pub const BANK_ENABLES: u8 = 0xA0;
-    pub const COUNTER: u8 = 0xB8;
-    pub const TRIGGER: u8 = 0xB9;
-    pub const ERROR_ENABLE_1: u8 = 0xC0;
-    pub const ERROR_DETECTION_1: u8 = 0xC1;
-    pub const ERROR_ENABLE_2: u8 = 0xC4;
-    pub const ERROR_DETECTION_2: u8 = 0xC5;
-    pub const ERROR_ADDRESS: u8 = 0xC8;
-    pub const ERROR_ADDRESS_END: u8 = 0xCB;
-    pub const ROW_CODES_LOW: u8 = 0xF0;
-    pub const ROW_CODES_HIGH: u8 = 0xF1;
-    pub const SWITCH: u8 = 0xF2;
-}
+/// The row code that means 12 row bits, or 13 for a long bank.
+const LONG_ROW_CODE: u8 = 3;
 
-use offset::*;
+/// REG-13: the longest bank in MB that has 12 row bits with that code.
+const LONGEST_OF_12_ROW_BITS: u32 = 128;
 
 /// REG-16
 pub const SWITCH_ON: u8 = 1 << 3;
@@ -80,14 +66,27 @@ impl Record {
         u32::from(self.at(low)) | u32::from(self.at(extended) & 3) << 8
     }
 
-    /// REG-12, REG-13: R, the number of row bits.
-    pub fn row_bits(&self, bank: u8) -> u32 {
+    /// REG-15: the length of a bank in MB; 0 if it starts above its end.
+    pub fn length_mb(&self, bank: u8) -> u32 {
+        (self.last_mb(bank) + 1).saturating_sub(self.start_mb(bank))
+    }
+
+    /// REG-12: the two bits of a bank.
+    pub fn row_code(&self, bank: u8) -> u8 {
         let codes = if bank < 4 {
             self.at(ROW_CODES_LOW)
         } else {
             self.at(ROW_CODES_HIGH)
         };
-        9 + u32::from(codes >> (2 * (bank % 4)) & 3)
+        codes >> (2 * (bank % 4)) & 3
+    }
+
+    /// REG-13: R, the number of row bits. It depends on the length too: one row
+    /// code stands for two sizes of modules.
+    pub fn row_bits(&self, bank: u8) -> u32 {
+        let code = self.row_code(bank);
+        let is_long = code == LONG_ROW_CODE && self.length_mb(bank) > LONGEST_OF_12_ROW_BITS;
+        9 + u32::from(code) + u32::from(is_long)
     }
 
     /// Register read: the byte as it stands, or refusal 1.

@@ -23,7 +23,9 @@ fn two_banks() -> Record {
 /// Bank 0 alone, from MB 0, switched on from the registers.
 fn one_bank(length_mb: u32, row_code: u8) -> Result<Record, Refusal> {
     let mut record = Record::fresh();
-    record.write_register(0x90, (length_mb - 1) as u8)?;
+    let [last, last_extended, ..] = (length_mb - 1).to_le_bytes();
+    record.write_register(0x90, last)?;
+    record.write_register(0x98, last_extended)?;
     record.write_register(0xA0, 1)?;
     record.write_register(0xF0, row_code)?;
     record.write_register(0xF2, 8)?;
@@ -88,7 +90,9 @@ fn lengths_and_rows() {
     assert!(one_bank(2, 0).is_ok());
     assert_eq!(one_bank(3, 0), Err(Refusal::TooLong(0)));
     assert!(one_bank(128, 3).is_ok());
-    assert_eq!(one_bank(129, 3), Err(Refusal::TooLong(0)));
+    assert!(one_bank(129, 3).is_ok());
+    assert!(one_bank(256, 3).is_ok());
+    assert_eq!(one_bank(257, 3), Err(Refusal::TooLong(0)));
 }
 
 /// ALIKE-2

@@ -23,7 +23,8 @@ fn accepted_set_ups_are_mixed() {
     }
     assert!([0, 255, 256, 1023].iter().all(|end| ends.contains(end)));
     assert_eq!(numbers.len(), 8);
-    assert_eq!(shapes.len(), 2 + 3 + 4 + 5);
+    // By row code; the last has two numbers of row bits.
+    assert_eq!(shapes.len(), 2 + 3 + 4 + (5 + 1));
 }
 
 #[test]

@@ -1,4 +1,4 @@
-//! The worked examples (EX-1 to EX-11) with the values of the specification,
+//! The worked examples (EX-1 to EX-12) with the values of the specification,
 //! banks that end near the limit of eight bits, splits, bursts and the bits of
 //! corrections. Library and model are both asked, so that two that are wrong in
 //! the same way don't pass.

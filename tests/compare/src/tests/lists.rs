@@ -18,6 +18,7 @@ use crate::tests::splits;
 use crate::ways::{every_bit, every_bit_of_single_calls, met, met_bits, mixtures, ways, Met};
 
 const LISTS: usize = 1_500;
+const LISTS_IN_LONG_BANKS: usize = 200;
 const CALLS: usize = 400;
 
 /// All cells are lent; those never touched take no memory.
@@ -25,25 +26,49 @@ const MOST_CELLS: u32 = 1 << 24;
 
 pub fn against_flat_machine(rng: &mut Rng) -> Result<String, String> {
     let mut coverage = Coverage::new();
-    for _ in 0..LISTS {
-        let off = record_that_is_off(rng);
+    let draft = |rng: &mut Rng| setups::accepted_draft(rng, MOST_CELLS);
+    check(rng, LISTS, draft, &mut coverage)?;
+    coverage.check(wanted())?;
+    Ok(format!("{LISTS} lists, {CALLS} calls each"))
+}
+
+/// The same in set-ups with banks of more than 128 MB (REG-13).
+pub fn in_long_banks(rng: &mut Rng) -> Result<String, String> {
+    let mut coverage = Coverage::new();
+    let draft = |rng: &mut Rng| {
+        let mut record = setups::long(rng);
+        record.set(offset::SWITCH, 0);
+        record
+    };
+    check(rng, LISTS_IN_LONG_BANKS, draft, &mut coverage)?;
+    coverage.check(wanted_of_single_calls())?;
+    Ok(format!("{LISTS_IN_LONG_BANKS} lists, {CALLS} calls each"))
+}
+
+fn check(
+    rng: &mut Rng,
+    count: usize,
+    draft: impl Fn(&mut Rng) -> Record,
+    coverage: &mut Coverage<Met>,
+) -> Result<(), String> {
+    for _ in 0..count {
+        let draft = draft(rng);
+        let off = record_that_is_off(rng, draft);
         let on = switched_on(&off).map_err(|_| smallest_refused(&off))?;
         let calls = lists::list(rng, &on, CALLS);
         if !lists::keeps_condition(&on, &calls) {
             return Err("a list that breaks the condition (LIST-6) was drawn".to_string());
         }
-        if difference(&off, &calls, &mut coverage).is_some() {
+        if difference(&off, &calls, coverage).is_some() {
             return Err(smallest(&off, &calls));
         }
     }
-    coverage.check(wanted())?;
-    Ok(format!("{LISTS} lists, {CALLS} calls each"))
+    Ok(())
 }
 
 /// LIST-2: any record that can be switched on, also a hand-made one, with any
 /// error registers and any bits that don't count.
-fn record_that_is_off(rng: &mut Rng) -> Record {
-    let draft = setups::accepted_draft(rng, MOST_CELLS);
+fn record_that_is_off(rng: &mut Rng, draft: Record) -> Record {
     let mut record = if rng.percent(60) {
         draw::harmless_change(rng, &draft)
     } else {
@@ -163,10 +188,7 @@ fn smallest(off: &Record, calls: &[Call]) -> String {
 /// of a correction is the one that the mark remembers (FLAT-5), any of them at
 /// any part.
 fn wanted() -> impl Iterator<Item = Met> {
-    ways("read", &[1, 2, 5], &[6])
-        .chain(ways("write", &[1, 2, 4, 5], &[6]))
-        .chain(ways("scrub", &[1, 2, 5], &[]))
-        .chain(ways("flip", &[0], &[8, 10]))
+    wanted_of_single_calls()
         .chain(splits::of_both(|kind| mixtures(kind, 2, &[1, 2, 5])))
         .chain(splits::of_both(|kind| ways(kind, &[], &[7])))
         .chain(mixtures("burst read", 4, &[1, 2]))
@@ -175,4 +197,11 @@ fn wanted() -> impl Iterator<Item = Met> {
         .chain(every_bit_of_single_calls())
         .chain(splits::of_both(|kind| every_bit(kind, 2)))
         .chain(every_bit("burst read", 4))
+}
+
+fn wanted_of_single_calls() -> impl Iterator<Item = Met> {
+    ways("read", &[1, 2, 5], &[6])
+        .chain(ways("write", &[1, 2, 4, 5], &[6]))
+        .chain(ways("scrub", &[1, 2, 5], &[]))
+        .chain(ways("flip", &[0], &[8, 10]))
 }

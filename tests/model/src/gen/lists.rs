@@ -1,37 +1,42 @@
 //! Random lists of memory calls and error-register calls for the comparison
 //! with the flat machine.
 
+mod condition;
+mod places;
+
+pub use condition::keeps_condition;
+
 use std::collections::HashSet;
 
-use super::{edges, setups, Rng};
+use super::{edges, Rng};
 use crate::calls::Call;
 use crate::flat::{doubleword, FlatMachine};
-use crate::map::{self, Layout};
+use crate::map;
 use crate::record::Record;
-
-/// Number of addresses that are used again and again in one list, besides those
-/// of [`edges::lines`] and those at both sides of each [`edges::edge`].
-const HOT_ADDRESSES: usize = 16;
-
-/// Number of places in one list that many splits run over.
-const HOT_EDGES: usize = 8;
+use places::Places;
 
 /// Lengths that a burst does not take; 288 is 32 in eight bits.
 const BAD_LENGTHS: [usize; 10] = [0, 1, 8, 16, 24, 31, 33, 40, 64, 288];
 
 /// A list that meets LIST-6, for a record that was just switched on.
 pub fn list(rng: &mut Rng, record: &Record, length: usize) -> Vec<Call> {
+    list_in_lent(rng, record, u32::MAX, length)
+}
+
+/// The same, keeping to that many lent cells, at least one: a set-up of long
+/// banks has more than anyone cares to lend. The outcomes are those of a list
+/// with every cell lent, since it never gets to another.
+pub fn list_in_lent(rng: &mut Rng, record: &Record, lent_cells: u32, length: usize) -> Vec<Call> {
     let layout = map::switched_on(record).expect("a record just switched on");
     let flat = FlatMachine::of_record(record).expect("a record just switched on");
+    let places = Places::choose(rng, &layout, lent_cells);
     let mut list = ListMaker {
         rng,
-        hot: Vec::new(),
-        edges: Vec::new(),
+        places,
         flat,
         flipped: HashSet::new(),
         calls: Vec::with_capacity(length),
     };
-    list.choose_hot(&layout);
     while list.calls.len() < length {
         list.add();
     }
@@ -40,9 +45,7 @@ pub fn list(rng: &mut Rng, record: &Record, length: usize) -> Vec<Call> {
 
 struct ListMaker<'a> {
     rng: &'a mut Rng,
-    hot: Vec<u32>,
-    /// The lower doublewords of splits.
-    edges: Vec<u32>,
+    places: Places,
     /// Only its spans are used.
     flat: FlatMachine,
     /// Doublewords that took a flip and no write or scrub since.
@@ -51,26 +54,8 @@ struct ListMaker<'a> {
 }
 
 impl ListMaker<'_> {
-    fn choose_hot(&mut self, layout: &Layout) {
-        for _ in 0..HOT_ADDRESSES {
-            let address = setups::address(self.rng, layout);
-            self.hot.push(address & !7);
-        }
-        // All four doublewords, so that one burst meets several flips.
-        for line in edges::lines(self.rng, layout) {
-            self.hot
-                .extend([0, 8, 16, 24].map(|distance| line + distance));
-        }
-        // Both doublewords, so that one split meets two flips.
-        for _ in 0..HOT_EDGES {
-            let edge = edges::edge(self.rng, layout);
-            self.edges.push(edge);
-            self.hot.extend([edge, edge.wrapping_add(8)]);
-        }
-    }
-
     fn address(&mut self) -> u32 {
-        self.rng.pick(&self.hot) + self.rng.below(8)
+        self.rng.pick(&self.places.hot) + self.rng.below(8)
     }
 
     fn add(&mut self) {
@@ -93,7 +78,7 @@ impl ListMaker<'_> {
             1 => (address, 9 + self.rng.below(20) as usize),
             2 | 3 => edges::split(self.rng, address & !7),
             4..=7 => {
-                let edge = self.rng.pick(&self.edges);
+                let edge = self.rng.pick(&self.places.edges);
                 edges::split(self.rng, edge)
             }
             8..=11 => (address & !7, 8),
@@ -217,33 +202,4 @@ impl ListMaker<'_> {
             Call::WriteRegister { offset, value }
         });
     }
-}
-
-/// True if a list meets LIST-6, judged by the flat machine's refusals; an
-/// independent check on [`list`].
-pub fn keeps_condition(record: &Record, calls: &[Call]) -> bool {
-    use crate::calls::Outcome;
-    let mut flat = FlatMachine::of_record(record).expect("a record just switched on");
-    let mut flipped = HashSet::new();
-    calls.iter().all(|call| {
-        let accepted = !matches!(flat.step(call), Some(Outcome::Refused(_)));
-        match call {
-            Call::Flip { address, .. } if accepted => flipped.insert(doubleword(*address)),
-            Call::Scrub { address } if accepted => {
-                flipped.remove(&doubleword(*address));
-                true
-            }
-            Call::Write { address, bytes } if accepted => {
-                for (address, _) in (*address..=u32::MAX).zip(bytes) {
-                    flipped.remove(&doubleword(address));
-                }
-                true
-            }
-            Call::BurstWrite { address, .. } if accepted => {
-                flipped.retain(|flipped| flipped / 4 != address / 32);
-                true
-            }
-            _ => true,
-        }
-    })
 }

@@ -1,11 +1,18 @@
 //! Random set-ups: accepted ones, refused ones, and records made by hand.
 
+mod faults;
+mod fields;
+mod spans;
+
 use super::Rng;
 use crate::map::{self, Layout};
 use crate::record::{is_extended, offset::*, Record, BANKS, SWITCH_ON};
+use faults::spoil;
+use fields::{set_mb, set_row_code};
 
-/// How many times a place for a bank is tried before the bank stays off.
-const ATTEMPTS: u32 = 8;
+/// How many of a hundred set-ups have a run of long banks, if their cells are
+/// within the limit.
+const WITH_RUN: u32 = 20;
 
 /// A record just switched on, its cells no more than the limit. Banks that
 /// are off have registers of any value.
@@ -22,11 +29,19 @@ pub fn accepted_draft(rng: &mut Rng, cell_limit: u32) -> Record {
     loop {
         let mut record = Record::fresh();
         for n in 0..BANKS {
-            scatter_bank(rng, &mut record, n);
+            spans::scatter_bank(rng, &mut record, n);
         }
-        let wanted = 1 + rng.below(u32::from(BANKS)) as usize;
-        for n in shuffled_banks(rng).into_iter().take(wanted) {
-            place_bank(rng, &mut record, n, cell_limit);
+        let wanted = 1 + rng.below(u32::from(BANKS));
+        let in_run = if cell_limit >= spans::LONG_BANK_CELLS && rng.percent(WITH_RUN) {
+            1 + rng.below(wanted)
+        } else {
+            0
+        };
+        let banks = shuffled_banks(rng);
+        let (run, others) = banks[..wanted as usize].split_at(in_run as usize);
+        spans::place_run(rng, &mut record, run, cell_limit);
+        for &n in others {
+            spans::place_bank(rng, &mut record, n, cell_limit);
         }
         if map::judge(&record).is_ok() {
             return record;
@@ -43,6 +58,15 @@ pub fn small(rng: &mut Rng, end_mb: u32) -> Record {
             return record;
         }
     }
+}
+
+/// A record just switched on that has a bank of more than 128 MB. One in three
+/// has; a model that accepts none is found out instead of being asked for ever.
+pub fn long(rng: &mut Rng) -> Record {
+    (0..1000)
+        .map(|_| accepted(rng, u32::MAX))
+        .find(|record| (0..BANKS).any(|n| record.is_enabled(n) && record.length_mb(n) > 128))
+        .expect("a long bank in a thousand set-ups")
 }
 
 /// A record that is off and that switching on refuses.
@@ -137,118 +161,6 @@ fn shuffled_banks(rng: &mut Rng) -> Vec<u8> {
         banks.swap(upper, rng.below(upper as u32 + 1) as usize);
     }
     banks
-}
-
-/// Writes an MB number at a boundary register and its extended byte, which
-/// stands eight offsets above.
-fn set_mb(record: &mut Record, low: u8, megabyte: u32) {
-    record.set(low, megabyte as u8);
-    record.set(low + 8, (megabyte >> 8) as u8);
-}
-
-fn set_row_code(record: &mut Record, n: u8, code: u8) {
-    let offset = if n < 4 { ROW_CODES_LOW } else { ROW_CODES_HIGH };
-    let shift = 2 * (n % 4);
-    let others = record.at(offset) & !(3 << shift);
-    record.set(offset, others | code << shift);
-}
-
-fn set_enabled(record: &mut Record, n: u8, enabled: bool) {
-    let others = record.at(BANK_ENABLES) & !(1 << n);
-    record.set(BANK_ENABLES, others | u8::from(enabled) << n);
-}
-
-/// Any start, any end, any row code.
-fn scatter_bank(rng: &mut Rng, record: &mut Record, n: u8) {
-    if rng.percent(50) {
-        set_mb(record, START + n, rng.below(1024));
-        set_mb(record, LAST + n, rng.below(1024));
-    }
-    set_row_code(record, n, rng.byte() & 3);
-}
-
-/// Enables bank n with some span that keeps the record acceptable, or leaves
-/// the record as it is.
-fn place_bank(rng: &mut Rng, record: &mut Record, n: u8, cell_limit: u32) {
-    for _ in 0..ATTEMPTS {
-        let mut tried = *record;
-        let code = rng.byte() & 3;
-        let length = random_length(rng, code);
-        let Some(last) = random_last(rng, record, length) else {
-            continue;
-        };
-        set_row_code(&mut tried, n, code);
-        set_mb(&mut tried, START + n, last + 1 - length);
-        set_mb(&mut tried, LAST + n, last);
-        set_enabled(&mut tried, n, true);
-        if map::judge(&tried).is_ok_and(|layout| layout.cells() <= cell_limit) {
-            *record = tried;
-            return;
-        }
-    }
-}
-
-/// The longest bank that a row code allows, in MB: 2^(R+R+3) bytes.
-fn longest(code: u8) -> u32 {
-    1 << (2 * (9 + u32::from(code)) + 3 - 20)
-}
-
-fn random_length(rng: &mut Rng, code: u8) -> u32 {
-    let longest = longest(code);
-    match rng.below(4) {
-        0 => 1,
-        1 => longest,
-        2 => longest >> rng.below(longest.ilog2() + 1),
-        _ => 1 + rng.below(longest),
-    }
-}
-
-/// A last MB for a bank of some length: at the edges of the eight low bits
-/// and of all ten, low down, next to another bank, or anywhere.
-fn random_last(rng: &mut Rng, record: &Record, length: u32) -> Option<u32> {
-    let last = match rng.below(10) {
-        0 => 255,
-        1 => 256,
-        2 => 1023,
-        3 => length - 1,
-        4 => 255 + rng.below(length),
-        5 | 6 => record.last_mb(rng.below(u32::from(BANKS)) as u8) + length,
-        7 | 8 => rng.below(16),
-        _ => rng.below(1024),
-    };
-    (last < 1024 && last + 1 >= length).then_some(last)
-}
-
-/// Breaks a set-up in one of the ways of 11 to 14 (it may by chance stay
-/// acceptable).
-fn spoil(rng: &mut Rng, record: &mut Record) {
-    let n = rng.below(u32::from(BANKS)) as u8;
-    let other = rng.below(u32::from(BANKS)) as u8;
-    match rng.below(6) {
-        0 => record.set(BANK_ENABLES, 0),
-        1 => {
-            set_mb(record, START + n, 1 + rng.below(1023));
-            set_mb(record, LAST + n, rng.below(record.start_mb(n)));
-            set_enabled(record, n, true);
-        }
-        2 => {
-            let length = longest((record.row_bits(n) - 9) as u8);
-            set_mb(record, START + n, rng.below(1024 - length));
-            set_mb(record, LAST + n, record.start_mb(n) + length);
-            set_enabled(record, n, true);
-        }
-        3 => {
-            set_mb(record, START + n, record.start_mb(other));
-            set_mb(record, LAST + n, record.start_mb(other));
-            set_enabled(record, n, true);
-        }
-        4 => {
-            set_mb(record, START + n, record.last_mb(other));
-            set_mb(record, LAST + n, record.last_mb(other));
-            set_enabled(record, n, true);
-        }
-        _ => record.set(BANK_ENABLES, rng.byte()),
-    }
 }
 
 /// An address: in a bank, at an edge of one, or anywhere.

@@ -7,9 +7,10 @@ use mir.Syntax.{w32}
 use mir.Val.{Fits}
 use lib.ListN.{getD}
 use lib.Pow.{pow-mono}
-use Rattle.banks.specs.Setup.{Setup, mostRows}
+use Rattle.banks.specs.Setup.{Setup, mostRows, mostColumns}
 use Rattle.banks.specs.Judge.{lowestMeeting}
 use Rattle.banks.specs.CodeFields.{setupIn}
+use Rattle.banks.proofs.TakenLaws.{byte-after}
 use Rattle.address_map.proofs.EnableLaws.{rest-falls}
 use Rattle.address_map.proofs.PassLaws.{Going, going-start, going-next, going-end, below-eight, small-here, bits-most, forward-here, faulty-here}
 use Rattle.address_map.proofs.PassLaws.{some-enabled, none-enabled, ready-from, unready-off, unready-none, unready-faulty, unready-meeting}
@@ -41,19 +42,20 @@ element-copy-out-rest : tie.Need-element-copy-out-rest Inv-loop μ-loop
 element-copy-out-rest c = search needs
 
 cast-rest : tie.Need-cast-rest Inv-loop μ-loop
-cast-rest c = search needs
+cast-rest c = let s = c .before .before .before in record { fits = omega (arith, byte-after 16 (s .args .fields .now) (s .pre)) }
 
 not-ready-requires-2 : tie.Need-not-ready-requires-2 Inv-loop μ-loop
 not-ready-requires-2 c κs = search needs
 
 returns-2 : tie.Need-returns-2 Inv-loop μ-loop
 returns-2 c =
-    let a = c .before .before .before .before .before .args in
+    let s = c .before .before .before .before .before in
+    let a = s .args in
     let f = a .fields .now in
-    rw (c .not-ready2 .ensures) (selection-declined (setupIn f) (a .mb) (unready-none (setupIn f) (none-enabled f (c .before .if2 .taken))), λ h. absurd (omega arith))
+    rw (c .not-ready2 .ensures) (selection-declined (setupIn f) (a .mb) (unready-none (setupIn f) (none-enabled f (s .pre) (c .before .if2 .taken))), λ h. absurd (omega arith))
 
 loop-holds : tie.Need-loop-holds Inv-loop μ-loop
-loop-holds c = let a = c .before .before .before .before .args in going-start (a .fields .now) (a .mb) _ _
+loop-holds c = let s = c .before .before .before .before in going-start (s .args .fields .now) (s .pre) (s .args .mb) _ _
 
 bits-of-requires : tie.Need-bits-of-requires Inv-loop μ-loop
 bits-of-requires c κs =
@@ -127,7 +129,7 @@ add-base c =
     let x = c .before .before .before .before .before .before .before .before .before .before .before .loop in
     let some = c .before .before .before .before .before .before .before .before .before .before .loop-test .taken in
     let k = bits-most (x .inv) some (s .pre) (c .before .before .before .before .before .before .before .before .before .bits-of .ensures) (c .before .before .before .before .before .before .before .before .if3 .left) in
-    record { fits = omega (arith, small-here (x .inv) some, c .power .ensures, pow-mono {i = 17 + c .before .before .before .before .before .before .before .before .before .bits-of .result} {j = mostRows + mostRows} (omega (arith, k))) }
+    record { fits = omega (arith, small-here (x .inv) some, c .power .ensures, pow-mono {i = 17 + c .before .before .before .before .before .before .before .before .before .bits-of .result} {j = mostRows + mostColumns} (omega (arith, k))) }
 
 sub-rest : tie.Need-sub-rest Inv-loop μ-loop
 sub-rest c =
@@ -164,14 +166,14 @@ found-requires c κs = search needs
 
 returns-4 : tie.Need-returns-4 Inv-loop μ-loop
 returns-4 c =
-    let a = c .before .before .before .before .before .before .before .before .before .args in
-    let f = a .fields .now in
+    let root = c .before .before .before .before .before .before .before .before .before in
+    let f = root .args .fields .now in
     let s : Setup = setupIn f in
     let x = c .before .before .before .before .loop in
     let p = going-end (x .inv) (c .before .before .before .loop-test .left) in
     let m = leb-true 8 (lowestMeeting s) (sym (c .before .before .is-apart .ensures) ∙ c .before .if4 .taken) in
     let on = sym (c .before .before .before .before .before .before .before .before .is-on .ensures) ∙ not-false (c .before .before .before .before .before .before .before .before .is-on .result) (c .before .before .before .before .before .before .before .if1 .left) in
-    let h = ready-from s on (some-enabled f (c .before .before .before .before .before .if2 .left)) (none-faulty p) m in
+    let h = ready-from s on (some-enabled f (root .pre) (c .before .before .before .before .before .if2 .left)) (none-faulty p) m in
     rw (c .found .ensures) (rw (le-ltb 8 (x .bank) (chosen-most p)) (selection-given p h), λ _. p .sum)
 
 not-ready-requires-4 : tie.Need-not-ready-requires-4 Inv-loop μ-loop

@@ -1,5 +1,5 @@
 //! Banks that end at MB 255, 256 and 1023, where an end in eight bits would go
-//! wrong.
+//! wrong, some of them with thirteen row bits.
 
 use super::lines::check_lines;
 use super::sides::Sides;
@@ -16,13 +16,23 @@ struct End {
 }
 
 /// Row, column and cell number, worked out by hand.
-const ENDS: [End; 9] = [
+const ENDS: [End; 13] = [
     end(255, 255, 0, [0, 0, 0], [511, 255, 131_071]),
     end(255, 256, 0, [256, 0, 131_072], [255, 511, 131_071]),
     end(254, 255, 1, [0, 0, 0], [1023, 255, 262_143]),
     end(128, 255, 3, [0, 0, 0], [4095, 4095, 16_777_215]),
     end(256, 256, 0, [0, 0, 0], [511, 255, 131_071]),
     end(129, 256, 3, [32, 0, 131_072], [31, 4095, 131_071]),
+    end(1, 256, 3, [32, 0, 131_072], [31, 4095, 131_071]),
+    end(127, 255, 3, [4064, 0, 16_646_144], [8191, 4095, 33_554_431]),
+    end(
+        895,
+        1023,
+        3,
+        [4064, 0, 16_646_144],
+        [8191, 4095, 33_554_431],
+    ),
+    end(768, 1023, 3, [0, 0, 0], [8191, 4095, 33_554_431]),
     end(1023, 1023, 0, [0, 0, 0], [511, 255, 131_071]),
     end(1020, 1023, 1, [0, 0, 0], [1023, 511, 524_287]),
     end(896, 1023, 3, [0, 0, 0], [4095, 4095, 16_777_215]),
@@ -59,7 +69,7 @@ const LINES_AT_ENDS: [(&str, &str); 3] = [
     ),
 ];
 
-/// EX-11, REG-5: banks that end at MB 255, 256 and 1023.
+/// EX-11, EX-12, REG-5: banks that end at MB 255, 256 and 1023.
 pub fn bank_ends(busline: &Busline) -> Result<String, String> {
     for end in &ENDS {
         for bank in [0, 5] {

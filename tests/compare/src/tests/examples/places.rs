@@ -6,8 +6,12 @@ use crate::answers::ACCEPTED;
 use crate::request::Request;
 
 /// Bank 0 from MB 0, before it is switched on.
-fn one_bank(length_mb: u8, row_code: u8) -> Result<Sides, String> {
-    Sides::with(2, &[(0x90, length_mb - 1), (0xA0, 1), (0xF0, row_code)])
+fn one_bank(length_mb: u32, row_code: u8) -> Result<Sides, String> {
+    let [low, extended, ..] = (length_mb - 1).to_le_bytes();
+    Sides::with(
+        2,
+        &[(0x90, low), (0x98, extended), (0xA0, 1), (0xF0, row_code)],
+    )
 }
 
 pub fn places_and_lengths() -> Result<String, String> {
@@ -31,8 +35,10 @@ pub fn places_and_lengths() -> Result<String, String> {
     // EX-9, ON-3
     one_bank(2, 0)?.set(0xF2, 8, ACCEPTED)?;
     one_bank(3, 0)?.set(0xF2, 8, 13)?;
-    one_bank(128, 3)?.set(0xF2, 8, ACCEPTED)?;
-    one_bank(129, 3)?.set(0xF2, 8, 13)?;
+    for length in [128, 129, 256] {
+        one_bank(length, 3)?.set(0xF2, 8, ACCEPTED)?;
+    }
+    one_bank(257, 3)?.set(0xF2, 8, 13)?;
     Sides::new(0).set(0xF2, 8, 11)?;
     different_registers_can_be_alike()?;
     Ok("the specification".to_string())

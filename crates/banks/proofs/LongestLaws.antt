@@ -1,0 +1,55 @@
+-- ON-3: the longest bank of each row code, and 12 or 13 of a bank by one comparison with it.
+use mathlib.Core.Path.{_≡_, sym, ap, _∙_}
+use mathlib.Core.Bool.{not}
+use mathlib.Core.List.{List}
+use Prim.Native.Nat.{ℕ, zero, suc, _+_, _-_, _%_, _^_, _≤_, _<_}
+use native.Mathlib.Omega.{arith}
+use lib.Dec.{ltb, leb}
+use lib.ListN.{getD}
+use borrow.Author.Tests.{ltb-true, ltb-false, leb-true, leb-false, lt-leb, le-leb, le-ltb}
+use Rattle.basics.proofs.RangeLaws.{byCases}
+use Rattle.banks.specs.Setup.{megabytes, rowBits, fits, columnLimit}
+use Rattle.banks.specs.Judge.{inverted, tooLong, faulty}
+use Rattle.banks.specs.CodeFields.{codeIn, longestOf, enabledIn}
+use Rattle.banks.proofs.FieldLaws.{fits-in}
+use Rattle.banks.proofs.TakenLaws.{code-below}
+
+pub longest-most : (code : ℕ) → code < 4 → longestOf code ≤ 256
+unfolding longestOf
+longest-most zero h = omega arith
+longest-most (suc zero) h = omega arith
+longest-most (suc (suc zero)) h = omega arith
+longest-most (suc (suc (suc zero))) h = omega arith
+longest-most (suc (suc (suc (suc k)))) h = absurd (omega arith)
+
+-- a bank fits exactly if it is no longer than the longest of its row code
+pub fits-longest : (code L : ℕ) → code < 4 → fits (rowBits code L) L (columnLimit (rowBits code L)) ≡ leb L (longestOf code)
+unfolding rowBits columnLimit longestOf
+fits-longest zero L h = fits-in 9 L 9 (omega arith)
+fits-longest (suc zero) L h = fits-in 10 L 10 (omega arith)
+fits-longest (suc (suc zero)) L h = fits-in 11 L 11 (omega arith)
+fits-longest (suc (suc (suc zero))) L h =
+    byCases (ltb 128 L) (λ t. rw t (fits-in 13 L 12 (omega arith)))
+    (λ t.
+    let l = ltb-false 128 L t in
+    rw t (fits-in 12 L 12 (omega arith) ∙ le-leb L 128 l ∙ sym (le-leb L 256 (omega arith))))
+fits-longest (suc (suc (suc (suc k)))) L h = absurd (omega arith)
+
+-- w is the last megabyte of bank n less its start, modulo 2 ^ 32
+module _ (f : List ℕ) (n w : ℕ) (x : getD f n 0 < 1024) (y : getD f (8 + n) 0 < 1024) (v : w < 2 ^ 32) (d : (w + getD f n 0) % 2 ^ 32 ≡ getD f (8 + n) 0) where
+  pub faulty-is : faulty (enabledIn f n) ≡ leb (longestOf (codeIn f n)) w
+  unfolding faulty inverted tooLong enabledIn megabytes
+  faulty-is =
+      let start = getD f n 0 in
+      let last = getD f (8 + n) 0 in
+      let m = longestOf (codeIn f n) in
+      let most = longest-most (codeIn f n) (code-below f n) in
+      byCases (ltb last start)
+      (λ t. rw t (sym (le-leb m w (omega (arith, ltb-true last start t, most)))))
+      (λ t.
+      let o = ltb-false last start t in
+      let e : last + 1 - start ≡ w + 1 = omega (arith, o) in
+      rw (t, e, fits-longest (codeIn f n) (w + 1) (code-below f n))
+      (byCases (leb m w)
+      (λ u. rw (u, lt-leb (w + 1) m (omega (arith, leb-true m w u))))
+      (λ u. rw (u, le-leb (w + 1) m (omega (arith, leb-false m w u))))))

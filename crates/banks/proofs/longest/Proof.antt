@@ -1,0 +1,19 @@
+use Prim.Native.Nat.{_%_}
+use mathlib.Core.Path.{refl}
+use native.Mathlib.Omega.{arith}
+use Rattle.banks.specs.CodeFields.{longestOf}
+use Rattle.banks.proofs.LongestLaws.{longest-most}
+use borrow.Author.Needs.{needs}
+use Rattle.banks.proofs.longest.Statement.{statement}
+use Rattle.banks.proofs.longest.Tie as tie
+
+cast-result-2 : tie.Need-cast-result-2
+unfolding longestOf
+cast-result-2 c = record { fits = omega (arith, longest-most (c .args .code % 4) (omega arith)) }
+
+returns : tie.Need-returns
+unfolding longestOf
+returns c = refl
+
+pub longest-spec : {M : Type 1} → statement M
+longest-spec = tie.close (tie.spec (λ c. search needs) (λ c. search needs) (λ c. search needs) cast-result-2 returns)
