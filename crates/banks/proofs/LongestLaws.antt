@@ -1,7 +1,7 @@
 -- ON-3: the longest bank of each row code, and 12 or 13 of a bank by one comparison with it.
 use mathlib.Core.Path.{_≡_, sym, ap, _∙_}
 use mathlib.Core.Bool.{not}
-use mathlib.Core.List.{List}
+use mathlib.Core.List.{List, [], _∷_}
 use Prim.Native.Nat.{ℕ, zero, suc, _+_, _-_, _%_, _^_, _≤_, _<_}
 use native.Mathlib.Omega.{arith}
 use lib.Dec.{ltb, leb}
@@ -14,13 +14,17 @@ use Rattle.banks.specs.CodeFields.{codeIn, longestOf, enabledIn}
 use Rattle.banks.proofs.FieldLaws.{fits-in}
 use Rattle.banks.proofs.TakenLaws.{code-below}
 
+-- each of four numbers is below k
+pub one-of-four : (a b c d k : ℕ) → a < k → b < k → c < k → d < k → (x : ℕ) → x < 4 → getD (a ∷ b ∷ c ∷ d ∷ []) x 0 < k
+one-of-four a b c d k p q r s zero h = p
+one-of-four a b c d k p q r s (suc zero) h = q
+one-of-four a b c d k p q r s (suc (suc zero)) h = r
+one-of-four a b c d k p q r s (suc (suc (suc zero))) h = s
+one-of-four a b c d k p q r s (suc (suc (suc (suc x)))) h = absurd (omega arith)
+
 pub longest-most : (code : ℕ) → code < 4 → longestOf code ≤ 256
 unfolding longestOf
-longest-most zero h = omega arith
-longest-most (suc zero) h = omega arith
-longest-most (suc (suc zero)) h = omega arith
-longest-most (suc (suc (suc zero))) h = omega arith
-longest-most (suc (suc (suc (suc k)))) h = absurd (omega arith)
+longest-most code h = omega (arith, one-of-four 2 8 32 256 257 (omega arith) (omega arith) (omega arith) (omega arith) code h)
 
 -- a bank fits exactly if it is no longer than the longest of its row code
 pub fits-longest : (code L : ℕ) → code < 4 → fits (rowBits code L) L (columnLimit (rowBits code L)) ≡ leb L (longestOf code)

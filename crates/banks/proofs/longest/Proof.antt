@@ -1,15 +1,15 @@
-use Prim.Native.Nat.{_%_}
+use Prim.Native.Nat.{_%_, _^_}
 use mathlib.Core.Path.{refl}
 use native.Mathlib.Omega.{arith}
 use Rattle.banks.specs.CodeFields.{longestOf}
-use Rattle.banks.proofs.LongestLaws.{longest-most}
+use Rattle.banks.proofs.LongestLaws.{one-of-four}
 use borrow.Author.Needs.{needs}
 use Rattle.banks.proofs.longest.Statement.{statement}
 use Rattle.banks.proofs.longest.Tie as tie
 
 cast-result-2 : tie.Need-cast-result-2
-unfolding longestOf
-cast-result-2 c = record { fits = omega (arith, longest-most (c .args .code % 4) (omega arith)) }
+cast-result-2 c =
+    record { fits = one-of-four _ _ _ _ (2 ^ 32) (omega arith) (omega arith) (omega arith) (omega arith) (c .args .code % 4) (omega arith) }
 
 returns : tie.Need-returns
 unfolding longestOf
