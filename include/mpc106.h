@@ -60,8 +60,8 @@
  *            while all bits of both were zero, as the call was given it and not rounded down to its doubleword.
  *            Each part of a split read or write and each beat of a burst counts as a call here, with its own address
  *   F0, F1   row codes, two bits for each bank: banks 0 to 3 from the low end of F0, 4 to 7 of F1. Codes
- *            0, 1, 2 mean 9, 10, 11 row bits; code 3 means 12 for a bank of up to 128 megabytes and 13 for a longer
- *            one. A bank may have up to 2, 8, 32, 256 megabytes with code 0, 1, 2, 3
+ *            0, 1, 2 mean 9, 10, 11 row bits. With code 3 a bank has 12 row bits if its length is at most 128
+ *            megabytes, and 13 otherwise. The longest bank of code 0, 1, 2, 3 has 2, 8, 32, 256 megabytes
  *   F2       bit 3 switches memory on: write 8 for on, 0 for off, and no other value
  *
  *   80 to A0, F0 and F1 can be written only while memory is off. No other offset has a register.
@@ -270,7 +270,7 @@ static inline uint32_t mpc106_judge(const mpc106_record *record)
 
 /*
  * How many cells the memory has: lend MPC106_CELL_BYTES times as many bytes. It is never above 251,658,240, which is
- * 15 * 2^24, so that at most 2,264,924,160 bytes are lent: more than an int holds.
+ * 15 * 2^24, so that at most 2,264,924,160 bytes need be lent: more than an int holds.
  * An enabled bank with R row bits has 2^(R+C) cells, where C, its column bits, is the smallest of 8, 9, .., R (of
  * 8, 9, .., 12 if R is 13) with 2^(R+C+3) >= its length in bytes; the memory has the sum of this over the enabled
  * banks. A bank has at most 2^25.

@@ -70,8 +70,8 @@ fn disjoint_pairs(enabled: u32) -> u32 {
     }
 }
 
-/// OFF, by the enable byte: FFFF for each disabled bank; then how many lower banks are enabled, for each bank. In the first of these eight, which is
-/// always 0, the high byte has the pairs of disjoint banks.
+/// OFF, by the enable byte: FFFF for each disabled bank; then how many lower banks are enabled, for each bank. Of bank 0 they are always 0, so the high
+/// byte there has the pairs of disjoint banks.
 fn off() -> Vec<u32> {
     let of_byte = |enabled: u32| {
         let lanes = (0..8).map(move |bank| if enabled >> bank & 1 == 1 { 0 } else { 0xffff });

@@ -42,8 +42,8 @@ pub const ERROR_DETECTION_2: u32 = 0xc5;
 pub const ERROR_ADDRESS: u32 = 0xc8;
 
 /// Two bits for each bank, banks 0 to 3 from the low end; those of banks 4 to 7 are at the next offset. Codes 0,
-/// 1, 2 mean 9, 10, 11 row bits; code 3 means 12 for a bank of up to 128 megabytes and 13 for a longer one. A bank
-/// may have up to 2, 8, 32, 256 megabytes with code 0, 1, 2, 3.
+/// 1, 2 mean 9, 10, 11 row bits. With code 3 a bank has 12 row bits if its length is at most 128 megabytes, and 13
+/// otherwise. The longest bank of code 0, 1, 2, 3 has 2, 8, 32, 256 megabytes.
 pub const ROW_CODES: u32 = 0xf0;
 
 /// Bit 3 switches memory on: write 8 for on, 0 for off, and no other value.

@@ -110,7 +110,7 @@ fn the_last_cell_must_be_lent() {
         (CELL_BYTES * (cell + 1) - 1, Err(Refusal::NotLent)),
         (CELL_BYTES * (cell + 1), Ok(Kind::Stored)),
     ] {
-        let mut memory = Memory::with_cells(record.clone(), vec![0; length]);
+        let mut memory = Memory::with_cells(record, vec![0; length]);
         let answer = memory.write(0x0fff_fff8, &[7; 8]);
         assert_eq!(answer.map(|answer| answer.kind()), expected);
     }

@@ -19,7 +19,7 @@ use Rattle.refusals.specs.Paper.{refused, given, _gives_}
 use Rattle.banks.specs.Setup.{Setup, bank}
 use Rattle.banks.specs.Judge.{lowest, isEnabled, inverted, tooLong, faulty, meets, meetsLower, lowestMeeting, judged, ready, notReady}
 use Rattle.banks.specs.Map.{mostCells, holds, bankAt, cells, share, cellsBelow}
-use Rattle.banks.specs.CodeFields.{TenBits, bankIn, enabledIn, setupIn}
+use Rattle.banks.specs.CodeFields.{FieldWidths, bankIn, enabledIn, setupIn}
 use Rattle.address_map.specs.CodeSelection.{megabyteBits, bitsUnlessFaulty, selection}
 use Rattle.banks.proofs.FieldLaws.{cells-most}
 use Rattle.banks.proofs.TakenLaws.{byte-after, bank-in, bounded-in}
@@ -180,12 +180,12 @@ pub record Going (f : List ℕ) (mb rest b k z base end ascent : ℕ) : Type 0 w
   pub left : Rest (getD f 16 0) rest n
   pub passed : Passed (setupIn f) mb n b k z base end ascent
 
-pub going-start : (f : List ℕ) → TenBits f → (mb end ascent : ℕ) → Going f mb (getD f 16 0) 8 0 0 0 end ascent
+pub going-start : (f : List ℕ) → FieldWidths f → (mb end ascent : ℕ) → Going f mb (getD f 16 0) 8 0 0 0 end ascent
 going-start f h mb end ascent =
     record { n = 0; left = rest-whole (getD f 16 0) (byte-after 16 f h); passed = passed-start (setupIn f) mb end ascent }
 
 -- some bank is enabled exactly if some bit is set
-pub some-enabled : (f : List ℕ) → TenBits f → ((getD f 16 0 ≡ 0) → ⊥) → lowest isEnabled (setupIn f) < 8
+pub some-enabled : (f : List ℕ) → FieldWidths f → ((getD f 16 0 ≡ 0) → ⊥) → lowest isEnabled (setupIn f) < 8
 unfolding lowest
 some-enabled f h z =
     let e = getD f 16 0 in
@@ -197,7 +197,7 @@ some-enabled f h z =
     contra (enabled-at f (trailingZeros 32 e) b ∙ next-on e e 0 w z)
     (first-before (λ k. isEnabled (bank (setupIn f) k)) 8 0 (trailingZeros 32 e) (omega arith) (omega (arith, b, ltb-false m 8 t))))
 
-pub none-enabled : (f : List ℕ) → TenBits f → getD f 16 0 ≡ 0 → 8 ≤ lowest isEnabled (setupIn f)
+pub none-enabled : (f : List ℕ) → FieldWidths f → getD f 16 0 ≡ 0 → 8 ≤ lowest isEnabled (setupIn f)
 unfolding lowest
 none-enabled f h z =
     let e = getD f 16 0 in
@@ -243,7 +243,7 @@ module _ {f : List ℕ} {mb rest b k z base end ascent : ℕ} (g : Going f mb re
     unfolding enabledIn
     ends-here = rw bank-here
 
-    module _ (t : TenBits f) {bits : ℕ} (e : bits ≡ bitsUnlessFaulty (enabledIn f m)) where
+    module _ (t : FieldWidths f) {bits : ℕ} (e : bits ≡ bitsUnlessFaulty (enabledIn f m)) where
       -- 32 bits stand for a faulty bank
       pub faulty-here : bits ≡ 32 → lowest faulty (setupIn f) < 8
       unfolding bitsUnlessFaulty lowest

@@ -6,21 +6,20 @@ use mathlib.Core.List.{List, [], _∷_}
 use Prim.Native.Nat.{ℕ, zero, suc, _+_, _-_, _*_, _/_, _%_, _^_, _≤_, _<_}
 use native.Mathlib.Omega.{arith}
 use lib.Dec.{ltb}
-use lib.ListN.{getD}
 use borrow.Author.Tests.{ltb-true, ltb-false, lt-ltb, le-ltb}
 use Rattle.basics.proofs.RangeLaws.{byCases, never, sum-zero, sum-more}
 use Rattle.refusals.specs.Paper.{_gives_}
 use Rattle.refusals.proofs.ChainLaws.{gives-given, gives-refused}
 use Rattle.banks.specs.declared.Bank.{Bank}
-use Rattle.banks.specs.Setup.{Setup, bank, Bounded}
-use Rattle.banks.specs.CodeFields.{TenBits, codeIn, enabledIn, bankIn, setupIn}
+use Rattle.banks.specs.Setup.{fewestRows, Setup, bank, Bounded}
+use Rattle.banks.specs.CodeFields.{codeIn, enabledIn, bankIn, setupIn}
 use Rattle.banks.specs.Judge.{notReady}
 use Rattle.banks.specs.Map.{mostCells, bankAt, cellInBank, share, cellsBelow, inSpan, located, placeOf}
-use Rattle.address_map.specs.CodeSelection.{megabyteBits, rowsByBits, selection, paperSelection}
+use Rattle.address_map.specs.CodeSelection.{megabyteBits, selection, paperSelection}
 use Rattle.address_map.specs.declared.pass.Selection.{Selection}
 use Rattle.banks.proofs.FieldLaws.{cells-most}
 use Rattle.banks.proofs.SpanLaws.{bank-held}
-use Rattle.banks.proofs.TakenLaws.{bank-in, bounded-in}
+use Rattle.banks.proofs.TakenLaws.{bank-in}
 use Rattle.address_map.proofs.SizeLaws.{cells-bits, rows-by-bits}
 use Rattle.address_map.proofs.PassLaws.{enabled-at}
 
@@ -33,24 +32,25 @@ cells-bound s h (suc n) =
     rw (e, sum-more)
     (byCases (bank s n .enabled) (λ t. rw t (omega (arith, cells-bound s h n, cells-most (bank s n) (h n)))) (λ t. rw t (omega (arith, cells-bound s h n))))
 
--- the number of an address within a bank, and the column bits of an enabled bank, from the bank's bits
+-- the number of an address within a bank, from the bank's bits
 pub cell-is : (b : Bank) → Bounded b → (bits a : ℕ) → bits ≡ megabyteBits b → a / 8 % 2 ^ (17 + bits) ≡ cellInBank b a
 unfolding cellInBank
 cell-is b h bits a e = rw (e, cells-bits b h)
 
-pub columns-are :
+-- the row bits of an enabled bank, from its row code and its bits
+pub rows-are :
     (f : List ℕ) (n : ℕ)
-    → TenBits f
     → n < 8
-    → bank (setupIn f) n .enabled ≡ true
-    → 17 + megabyteBits (bank (setupIn f) n) - rowsByBits (codeIn f n) (megabyteBits (bank (setupIn f) n)) ≡ bank (setupIn f) n .columns
-unfolding megabyteBits bankIn
-columns-are f n t l on =
-    let b = bounded-in f t n in
+    → bank (setupIn f) n .enabled ≡ true → fewestRows + codeIn f n + megabyteBits (bank (setupIn f) n) / 8 ≡ bank (setupIn f) n .rows
+unfolding bankIn
+rows-are f n l on =
     let e : bank (setupIn f) n ≡ enabledIn f n = rw (bank-in f n l, sym (enabled-at f n l) ∙ on) in
-    let r = rw e at (b .rows-least) in
-    let c = rw e at (b .columns-least) in
-    rw (e, sym (rows-by-bits f n)) (omega (arith, r, c))
+    rw e (sym (rows-by-bits f n))
+
+-- the column bits of a bank that keeps to the bounds, from its row bits
+pub columns-are : (b : Bank) → Bounded b → 17 + megabyteBits b - b .rows ≡ b .columns
+unfolding megabyteBits
+columns-are b h = omega arith
 
 abbrev tripleOf : Option (ℕ × ℕ × ℕ) → ℕ × ℕ × ℕ
 tripleOf none = (0, 0, 0)

@@ -1,6 +1,6 @@
 -- The size of a bank from the length of its span, as a number of bits, and from its row code.
 use mathlib.Core.Path.{_≡_, refl, sym, ap, _∙_}
-use mathlib.Core.Bool.{true, false, cond, _&&_}
+use mathlib.Core.Bool.{false, cond, _&&_}
 use mathlib.Core.List.{List}
 use Prim.Native.Nat.{ℕ, zero, suc, _+_, _-_, _*_, _/_, _%_, _^_, _≤_, _<_}
 use native.Mathlib.Omega.{arith}
@@ -15,14 +15,14 @@ use Rattle.banks.specs.declared.Bank.{Bank}
 use Rattle.banks.specs.Setup.{fewestRows, mostRows, megabytes, rowBits, fits, columnLimit, columnBits, Bounded}
 use Rattle.banks.specs.Map.{cells}
 use Rattle.banks.specs.CodeFields.{codeIn, longestOf, enabledIn}
-use Rattle.address_map.specs.CodeSelection.{SizeBits, megabyteBits, rowsByBits, bitsUnlessFaulty}
-use Rattle.banks.proofs.FieldLaws.{rows-by-code, rows-by-length, limit-is, fits-in, columns-to, long-columns}
+use Rattle.address_map.specs.CodeSelection.{SizeBits, megabyteBits, bitsUnlessFaulty}
+use Rattle.banks.proofs.FieldLaws.{rows-by-code, rows-by-length, limit-is, fits-in, columns-narrow, long-columns}
 use Rattle.banks.proofs.LongestLaws.{longest-most, faulty-is}
 use Rattle.banks.proofs.TakenLaws.{code-below}
 
--- the longest bank of the row codes that leave the row bits to the code alone
+-- the longest bank of row codes 0 to 2
 longest-power : (code : ℕ) → code < 3 → longestOf code ≡ 2 ^ (2 * code + 1)
-unfolding longestOf
+unfolding rowBits columnLimit longestOf
 longest-power zero h = refl
 longest-power (suc zero) h = refl
 longest-power (suc (suc zero)) h = refl
@@ -125,8 +125,8 @@ unfolding cells megabyteBits
 cells-bits b h = ap (λ (x : ℕ). 2 ^ x) (omega arith)
 
 -- the row bits of an enabled bank, by those bits
-pub rows-by-bits : (f : List ℕ) (n : ℕ) → enabledIn f n .rows ≡ rowsByBits (codeIn f n) (megabyteBits (enabledIn f n))
-unfolding enabledIn megabyteBits rowsByBits
+pub rows-by-bits : (f : List ℕ) (n : ℕ) → enabledIn f n .rows ≡ fewestRows + codeIn f n + megabyteBits (enabledIn f n) / 8
+unfolding enabledIn megabyteBits
 rows-by-bits f n =
     let L = megabytes (getD f n 0) (getD f (8 + n) 0) in
     let code = codeIn f n in
@@ -137,7 +137,7 @@ rows-by-bits f n =
     let l = ltb-true 128 L (and-right (eqb code 3) (ltb 128 L) t) in
     rw (e, rows-by-length L l, long-columns L l))
     (λ t.
-    let c = columns-to R L (omega arith) in
+    let c = columns-narrow R L (omega arith) in
     let r = rows-by-code code L (λ l e. contra (rw (e, lt-ltb 128 L l)) t) in
     rw r (omega (arith, c, code-below f n)))
 

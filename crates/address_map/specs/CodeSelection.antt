@@ -1,5 +1,5 @@
 -- What the pass finds, for the contracts of its functions.
-use Prim.Native.Nat.{ℕ, _+_, _-_, _/_, _<_}
+use Prim.Native.Nat.{ℕ, _+_, _-_, _<_}
 use mathlib.Core.Path.{_≡_}
 use mathlib.Core.Bool.{cond}
 use mathlib.Core.Option.{Option, none, some}
@@ -7,7 +7,7 @@ use lib.Dec.{ltb}
 use Rattle.refusals.specs.Paper.{paper, Outcome, refused, given}
 use Rattle.refusals.specs.declared.Refusal.the-variants.{NotReady}
 use Rattle.banks.specs.declared.Bank.{Bank}
-use Rattle.banks.specs.Setup.{Setup, fewestRows, rowBits, columnBits, bank}
+use Rattle.banks.specs.Setup.{Setup, rowBits, columnBits, bank}
 use Rattle.banks.specs.CodeFields.{longestOf}
 use Rattle.banks.specs.Judge.{faulty}
 use Rattle.banks.specs.Map.{bankAt, cellsBelow}
@@ -21,11 +21,7 @@ SizeBits span code k = span < longestOf code → 17 + k ≡ rowBits code (span +
 unfoldable pub megabyteBits : Bank → ℕ
 megabyteBits b = b .rows + b .columns - 17
 
--- the row bits of a bank with this row code, by those bits
-unfoldable pub rowsByBits : ℕ → ℕ → ℕ
-rowsByBits code bits = fewestRows + code + bits / 8
-
--- how many bits number the megabytes of a bank's cells, or 32 where the bank is faulty
+-- the same, or 32 where the bank is faulty
 unfoldable pub bitsUnlessFaulty : Bank → ℕ
 bitsUnlessFaulty b = cond (faulty b) 32 (megabyteBits b)
 

@@ -3,11 +3,11 @@ ghost use mathlib.Core.Path.{_≡_};
 ghost use mathlib.Core.Bool.{true};
 ghost use Prim.Native.Nat.{_+_, _/_, _%_, _^_, _≤_, _<_};
 ghost use Rattle.banks.specs.Setup.{mostRows, mostColumns, bank};
-ghost use Rattle.banks.specs.CodeFields.{TenBits, setupIn};
+ghost use Rattle.banks.specs.CodeFields.{FieldWidths, setupIn};
 ghost use Rattle.banks.specs.Map.{paperMapping, mostCells, cellsBelow, placeOf, mapped, paperTarget, cellOf, paperCount, cellCount};
 ghost use Rattle.banks.specs.Judge.{notReady};
 ghost use Rattle.refusals.specs.Paper.{_gives_};
-ghost use Rattle.address_map.specs.CodeSelection.{megabyteBits, rowsByBits};
+ghost use Rattle.address_map.specs.CodeSelection.{megabyteBits};
 use crate::fields::row_code;
 use crate::pass::NO_BANK;
 use crate::pass::power;
@@ -33,27 +33,27 @@ fn cell_in_bank(bits: u32, address: u32) -> u32
     address >> 3 & (power(MEGABYTE + bits) - 1)
 }
 
-// REG-13: the row bits of a bank with this row code, of which `bits` bits number the megabytes: eight bits only with the thirteenth row bit.
-fn row_bits(code: u32, bits: u32) -> u32
-    requires { ⌜ (code < 4) × (bits ≤ 8) ⌝ }
-    ensures { λ r. ⌜ r ≡ rowsByBits code bits ⌝ }
+// REG-13: the row bits of the enabled bank n, if `bits` bits number the megabytes of its cells; it takes eight only with thirteen row bits.
+fn row_bits(fields: &[u16; FIELDS], n: u32, bits: u32) -> u32
+    requires { ⌜ FieldWidths (now fields) × (n < 8) × (bank (setupIn (now fields)) n .enabled ≡ true) × (bits ≡ megabyteBits (bank (setupIn (now fields)) n)) × (bits ≤ 8) ⌝ }
+    ensures { λ r. ⌜ r ≡ bank (setupIn (now (fields .entry))) n .rows ⌝ }
     ensures bound { λ r. ⌜ r ≤ mostRows ⌝ }
 {
-    FEWEST_ROWS + code + (bits >> 3)
+    FEWEST_ROWS + row_code(fields, n) + (bits >> 3)
 }
 
-// REG-14: the column bits of the enabled bank n.
+// REG-14: its column bits.
 fn column_bits(fields: &[u16; FIELDS], n: u32, bits: u32) -> u32
-    requires { ⌜ TenBits (now fields) × (n < 8) × (bank (setupIn (now fields)) n .enabled ≡ true) × (bits ≡ megabyteBits (bank (setupIn (now fields)) n)) × (bits ≤ 8) ⌝ }
+    requires { ⌜ FieldWidths (now fields) × (n < 8) × (bank (setupIn (now fields)) n .enabled ≡ true) × (bits ≡ megabyteBits (bank (setupIn (now fields)) n)) × (bits ≤ 8) ⌝ }
     ensures { λ c. ⌜ c ≡ bank (setupIn (now (fields .entry))) n .columns ⌝ }
     ensures bound { λ c. ⌜ c ≤ mostColumns ⌝ }
 {
-    MEGABYTE + bits - row_bits(row_code(fields, n), bits)
+    MEGABYTE + bits - row_bits(fields, n, bits)
 }
 
 // The place of an address in the enabled bank n, whose first cell is cell number `base`.
 fn place_in(fields: &[u16; FIELDS], n: u32, base: u32, bits: u32, address: u32) -> Place
-    requires { ⌜ TenBits (now fields) × (n < 8) × (bank (setupIn (now fields)) n .enabled ≡ true) × (base ≡ cellsBelow (setupIn (now fields)) n) × (bits ≡ megabyteBits (bank (setupIn (now fields)) n)) × (bits ≤ 8) ⌝ }
+    requires { ⌜ FieldWidths (now fields) × (n < 8) × (bank (setupIn (now fields)) n .enabled ≡ true) × (base ≡ cellsBelow (setupIn (now fields)) n) × (bits ≡ megabyteBits (bank (setupIn (now fields)) n)) × (bits ≤ 8) ⌝ }
     ensures { λ p. ⌜ p ≡ placeOf (setupIn (now (fields .entry))) n address ⌝ }
 {
     let w = cell_in_bank(bits, address);
@@ -67,7 +67,7 @@ fn place_in(fields: &[u16; FIELDS], n: u32, base: u32, bits: u32, address: u32) 
 }
 
 pub(crate) fn map_address(fields: &[u16; FIELDS], address: u32) -> Mapping
-    requires { ⌜ TenBits (now fields) ⌝ }
+    requires { ⌜ FieldWidths (now fields) ⌝ }
     ensures { λ m. ⌜ paperMapping m ≡ mapped (setupIn (now (fields .entry))) address ⌝ }
 {
     let x = select(fields, address >> 20);
@@ -81,7 +81,7 @@ pub(crate) fn map_address(fields: &[u16; FIELDS], address: u32) -> Mapping
 }
 
 pub(crate) fn cell_of(fields: &[u16; FIELDS], address: u32) -> Target
-    requires { ⌜ TenBits (now fields) ⌝ }
+    requires { ⌜ FieldWidths (now fields) ⌝ }
     ensures { λ t. ⌜ paperTarget t ≡ (notReady (setupIn (now (fields .entry))) gives cellOf (setupIn (now (fields .entry))) address) ⌝ }
 {
     let x = select(fields, address >> 20);
@@ -97,7 +97,7 @@ pub(crate) fn cell_of(fields: &[u16; FIELDS], address: u32) -> Target
 
 // The pass counts the cells whatever the megabyte is.
 pub(crate) fn count(fields: &[u16; FIELDS]) -> CellCount
-    requires { ⌜ TenBits (now fields) ⌝ }
+    requires { ⌜ FieldWidths (now fields) ⌝ }
     ensures { λ k. ⌜ paperCount k ≡ (notReady (setupIn (now (fields .entry))) gives cellCount (setupIn (now (fields .entry)))) ⌝ }
 {
     let x = select(fields, 0);

@@ -4,7 +4,7 @@ ghost use mathlib.Core.Path.{_≡_};
 ghost use Prim.Native.Nat.{_+_, _<_};
 ghost use lib.ListN.{getD};
 ghost use Rattle.banks.specs.Setup.{setupOf, bank};
-ghost use Rattle.banks.specs.CodeFields.{TenBits, codeIn, setupIn};
+ghost use Rattle.banks.specs.CodeFields.{FieldWidths, codeIn, setupIn};
 use banks::CODES;
 use banks::ENABLE;
 use banks::FIELDS;
@@ -13,7 +13,7 @@ use registers::Registers;
 
 pub(crate) fn taken(r: Registers) -> [u16; FIELDS]
     ensures { λ f. ⌜ setupIn f ≡ setupOf r ⌝ }
-    ensures bound { λ f. ⌜ TenBits f ⌝ }
+    ensures bound { λ f. ⌜ FieldWidths f ⌝ }
 {
     banks::fields(r)
 }
@@ -32,7 +32,7 @@ pub(crate) fn is_enabled(fields: &[u16; FIELDS], n: u8) -> bool
 }
 
 pub(crate) fn start_of(fields: &[u16; FIELDS], n: u32) -> u32
-    requires { ⌜ TenBits (now fields) × (n < 8) ⌝ }
+    requires { ⌜ FieldWidths (now fields) × (n < 8) ⌝ }
     ensures { λ k. ⌜ k ≡ getD (now (fields .entry)) n 0 ⌝ }
     ensures bound { λ k. ⌜ k < 1024 ⌝ }
 {
@@ -40,7 +40,7 @@ pub(crate) fn start_of(fields: &[u16; FIELDS], n: u32) -> u32
 }
 
 pub(crate) fn last_of(fields: &[u16; FIELDS], n: u32) -> u32
-    requires { ⌜ TenBits (now fields) × (n < 8) ⌝ }
+    requires { ⌜ FieldWidths (now fields) × (n < 8) ⌝ }
     ensures { λ k. ⌜ k ≡ getD (now (fields .entry)) (8 + n) 0 ⌝ }
     ensures bound { λ k. ⌜ k < 1024 ⌝ }
 {

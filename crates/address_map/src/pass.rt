@@ -7,7 +7,7 @@ ghost use Rattle.refusals.specs.Paper.{_gives_};
 ghost use Rattle.banks.specs.Judge.{meets, meetsLower, lowestMeeting, notReady};
 ghost use Rattle.banks.specs.Setup.{bank};
 ghost use Rattle.banks.specs.Map.{cellCount};
-ghost use Rattle.banks.specs.CodeFields.{TenBits, enabledIn, setupIn};
+ghost use Rattle.banks.specs.CodeFields.{FieldWidths, enabledIn, setupIn};
 ghost use Rattle.address_map.specs.CodeSelection.{SizeBits, bitsUnlessFaulty, selection, paperSelection};
 use crate::fields::is_enabled;
 use crate::fields::is_on;
@@ -87,7 +87,7 @@ fn size_bits(span: u32, code: u32) -> u32
 // How many bits number the megabytes of the enabled bank n's cells. If its start is above its end, the difference wraps to a number too long
 // for any bank.
 fn bits_of(fields: &[u16; FIELDS], n: u32) -> u32
-    requires { ⌜ TenBits (now fields) × (n < 8) ⌝ }
+    requires { ⌜ FieldWidths (now fields) × (n < 8) ⌝ }
     ensures { λ k. ⌜ k ≡ bitsUnlessFaulty (enabledIn (now (fields .entry)) n) ⌝ }
 {
     let code = row_code(fields, n);
@@ -148,7 +148,7 @@ fn is_apart(fields: &[u16; FIELDS], known: bool) -> bool
 }
 
 pub(crate) fn select(fields: &[u16; FIELDS], mb: u32) -> Selection
-    requires { ⌜ TenBits (now fields) ⌝ }
+    requires { ⌜ FieldWidths (now fields) ⌝ }
     ensures { λ x. ⌜ paperSelection x ≡ (notReady (setupIn (now (fields .entry))) gives selection (setupIn (now (fields .entry))) mb) ⌝ }
     ensures counted { λ x. ⌜ (x .bank ≤ 8 → x .count ≡ cellCount (setupIn (now (fields .entry)))) ⌝ }
 {

@@ -2,43 +2,25 @@
 -- megabytes 128, 257, .., 902, here called marks; and no two banks hold the same.
 use mathlib.Core.Path.{_≡_}
 use mathlib.Core.Bool.{true, cond}
+use mathlib.Core.Option.{some}
 use Prim.Native.Nat.{ℕ, zero, suc, _+_, _-_, _*_, _/_, _^_, _≤_, _<_}
 use native.Mathlib.Omega.{arith}
 use lib.Dec.{ltb}
 use lib.Pow.{pow-mono}
 use borrow.Author.Tests.{ltb-true, ltb-false, lt-ltb, le-ltb}
 use Rattle.basics.specs.Range.{sum}
-use Rattle.basics.proofs.RangeLaws.{byCases, sum-zero, sum-more}
+use Rattle.basics.proofs.RangeLaws.{byCases, sum-zero, sum-more, sum-grows, sum-rises, sum-ones}
 use Rattle.registers.specs.Record.{at}
 use Rattle.registers.specs.declared.Registers.{Registers}
-use Rattle.banks.specs.Setup.{Setup, mostRows, mostColumns, megabytes, setupOf, bank}
+use Rattle.banks.specs.Setup.{Setup, megabytes, setupOf, bank}
 use Rattle.banks.specs.Judge.{ready}
-use Rattle.banks.specs.Map.{bankAt, cells, share, cellsBelow, cellCount}
+use Rattle.banks.specs.Map.{bankAt, cells, share, cellsBelow, cellCount, cellOf}
 use Rattle.banks.proofs.FieldLaws.{Decoded, decoded, bounded}
 use Rattle.banks.proofs.SpanLaws.{held-holds}
 use Rattle.banks.proofs.AcceptedLaws.{fitting}
 use Rattle.banks.proofs.CellLaws.{bank-selected}
+use Rattle.banks.proofs.MapLaws.{map-laws}
 
--- ---- sums
-sum-grows : (f g : ℕ → ℕ) (k : ℕ) → ((i : ℕ) → f i ≤ g i) → sum f k ≤ sum g k
-unfolding sum
-sum-grows f g zero h = omega arith
-sum-grows f g (suc k) h = omega (arith, sum-grows f g k h, h k)
-
-sum-rises : (f g : ℕ → ℕ) (k j : ℕ) → ((i : ℕ) → f i ≤ g i) → j < k → f j < g j → sum f k < sum g k
-unfolding sum
-sum-rises f g zero j h l r = absurd (omega arith)
-sum-rises f g (suc k) j h l r =
-    byCases (ltb j k)
-    (λ t. omega (arith, sum-rises f g k j h (ltb-true j k t) r, h k))
-    (λ t. let e : j ≡ k = omega (arith, ltb-false j k t) in omega (arith, sum-grows f g k h, rw e at r))
-
-sum-ones : (f : ℕ → ℕ) (k : ℕ) → ((i : ℕ) → f i ≤ 1) → sum f k ≤ k
-unfolding sum
-sum-ones f zero h = omega arith
-sum-ones f (suc k) h = omega (arith, sum-ones f k h, h k)
-
--- ---- marks
 abbrev mark : ℕ → ℕ
 mark i = 129 * i + 128
 
@@ -84,7 +66,7 @@ module _ (s : Setup) (d : (n : ℕ) → Decoded (bank s n)) (ends : (n : ℕ) �
       let grows = sum-grows (marked s n) (marked s (n + 1)) 7 (marked-grows s n) in
       let R = b .rows in
       let C = b .columns in
-      let most = d n .columns-most in
+      let most = d n .columns-narrow in
       byCases (b .enabled)
       (λ on.
       byCases (ltb 12 R)
@@ -109,3 +91,11 @@ module _ (s : Setup) (d : (n : ℕ) → Decoded (bank s n)) (ends : (n : ℕ) �
 -- a ready record has at most 251,658,240 cells
 pub count-most : (r : Registers) → ((o : ℕ) → o < 256 → at r o < 256) → ready (setupOf r) ≡ true → cellCount (setupOf r) ≤ 15 * 2 ^ 24
 count-most r bytes h = cells-of-all (setupOf r) (decoded r) (λ n. bounded r bytes n .last-most) h
+
+-- and the numbers of its cells are below that
+pub number-most :
+    (r : Registers)
+    → ((o : ℕ) → o < 256 → at r o < 256)
+    → ready (setupOf r) ≡ true
+    → (a k : ℕ) → cellOf (setupOf r) a ≡ some k → k < 15 * 2 ^ 24
+number-most r bytes h a k e = omega (arith, map-laws r h .within a k e, count-most r bytes h)

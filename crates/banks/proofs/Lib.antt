@@ -6,6 +6,6 @@ pub mod StoreLaws
 pub mod SpanLaws
 pub mod AcceptedLaws
 pub mod CellLaws
-pub mod CountLaws
 pub mod MegabyteLaws
 pub mod MapLaws
+pub mod CountLaws

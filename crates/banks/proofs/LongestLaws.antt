@@ -1,12 +1,11 @@
 -- ON-3: the longest bank of each row code, and 12 or 13 of a bank by one comparison with it.
-use mathlib.Core.Path.{_≡_, sym, ap, _∙_}
-use mathlib.Core.Bool.{not}
+use mathlib.Core.Path.{_≡_, refl, sym, _∙_}
 use mathlib.Core.List.{List, [], _∷_}
 use Prim.Native.Nat.{ℕ, zero, suc, _+_, _-_, _%_, _^_, _≤_, _<_}
 use native.Mathlib.Omega.{arith}
 use lib.Dec.{ltb, leb}
 use lib.ListN.{getD}
-use borrow.Author.Tests.{ltb-true, ltb-false, leb-true, leb-false, lt-leb, le-leb, le-ltb}
+use borrow.Author.Tests.{ltb-true, ltb-false, leb-true, leb-false, lt-leb, le-leb}
 use Rattle.basics.proofs.RangeLaws.{byCases}
 use Rattle.banks.specs.Setup.{megabytes, rowBits, fits, columnLimit}
 use Rattle.banks.specs.Judge.{inverted, tooLong, faulty}
@@ -22,9 +21,18 @@ one-of-four a b c d k p q r s (suc (suc zero)) h = r
 one-of-four a b c d k p q r s (suc (suc (suc zero))) h = s
 one-of-four a b c d k p q r s (suc (suc (suc (suc x)))) h = absurd (omega arith)
 
+-- the rule of the code's table, computed
+pub table-is : (code : ℕ) → code < 4 → getD (2 ∷ 8 ∷ 32 ∷ 256 ∷ []) code 0 ≡ longestOf code
+unfolding rowBits columnLimit longestOf
+table-is zero h = refl
+table-is (suc zero) h = refl
+table-is (suc (suc zero)) h = refl
+table-is (suc (suc (suc zero))) h = refl
+table-is (suc (suc (suc (suc k)))) h = absurd (omega arith)
+
 pub longest-most : (code : ℕ) → code < 4 → longestOf code ≤ 256
-unfolding longestOf
-longest-most code h = omega (arith, one-of-four 2 8 32 256 257 (omega arith) (omega arith) (omega arith) (omega arith) code h)
+longest-most code h =
+    omega (arith, table-is code h, one-of-four 2 8 32 256 257 (omega arith) (omega arith) (omega arith) (omega arith) code h)
 
 -- a bank fits exactly if it is no longer than the longest of its row code
 pub fits-longest : (code L : ℕ) → code < 4 → fits (rowBits code L) L (columnLimit (rowBits code L)) ≡ leb L (longestOf code)

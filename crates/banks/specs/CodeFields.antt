@@ -1,5 +1,5 @@
 -- What the code takes out of a record: nineteen numbers, from which it reads each bank. They are no part of what the rules say.
-use Prim.Native.Nat.{ℕ, zero, suc, _+_, _*_, _/_, _%_, _^_, _<_}
+use Prim.Native.Nat.{ℕ, zero, suc, _+_, _-_, _*_, _/_, _%_, _^_, _<_}
 use mathlib.Core.Bool.{cond}
 use mathlib.Core.List.{List, [], _∷_}
 use lib.ListN.{getD}
@@ -7,7 +7,7 @@ use lib.Dec.{eqb}
 use Rattle.registers.specs.Record.{at}
 use Rattle.registers.specs.declared.Registers.{Registers}
 use Rattle.banks.specs.declared.Bank.{Bank}
-use Rattle.banks.specs.Setup.{Setup, startOf, lastOf, bankFrom, offBank}
+use Rattle.banks.specs.Setup.{Setup, startOf, lastOf, rowBits, columnLimit, bankFrom, offBank}
 
 -- eight starts, eight last megabytes, the bank enables, both bytes of row codes, and F2
 unfoldable pub fieldsOf : Registers → List ℕ
@@ -37,9 +37,9 @@ fieldsOf r =
 unfoldable pub codeIn : List ℕ → ℕ → ℕ
 codeIn f n = getD f 17 0 / 2 ^ (2 * n) % 4
 
--- the longest bank of a row code, in megabytes
+-- ON-3: the longest bank of a row code, in megabytes: as many as the row bits of a long span and the most column bits beside them number
 unfoldable pub longestOf : ℕ → ℕ
-longestOf code = getD (2 ∷ 8 ∷ 32 ∷ 256 ∷ []) code 0
+longestOf code = 2 ^ (rowBits code 1024 + columnLimit (rowBits code 1024) - 17)
 
 -- bank n, as it is when enabled
 unfoldable pub enabledIn : List ℕ → ℕ → Bank
@@ -58,12 +58,12 @@ setupIn f =
     }
 
 -- the first k numbers have ten bits, and the next has eight
-abbrev pub FirstTenBits : ℕ → List ℕ → Type 0
-FirstTenBits zero [] = Unit {0}
-FirstTenBits zero (x ∷ xs) = x < 256
-FirstTenBits (suc k) [] = Unit {0}
-FirstTenBits (suc k) (x ∷ xs) = (x < 1024) × FirstTenBits k xs
+abbrev pub WidthsFrom : ℕ → List ℕ → Type 0
+WidthsFrom zero [] = Unit {0}
+WidthsFrom zero (x ∷ xs) = x < 256
+WidthsFrom (suc k) [] = Unit {0}
+WidthsFrom (suc k) (x ∷ xs) = (x < 1024) × WidthsFrom k xs
 
 -- the sixteen starts and last megabytes have ten bits each, and the bank enables have eight
-abbrev pub TenBits : List ℕ → Type 0
-TenBits f = FirstTenBits 16 f
+abbrev pub FieldWidths : List ℕ → Type 0
+FieldWidths f = WidthsFrom 16 f

@@ -108,7 +108,7 @@ pub fn decode_bank(r: Registers, n: u32) -> Bank
     setup::off_bank()
 }
 
-// ON-3: the longest bank of a row code, in megabytes.
+// ON-3: the longest bank of a row code, in megabytes. Of the number that is given two bits count.
 pub fn longest(code: u32) -> u32
     ensures { λ k. ⌜ k ≡ longestOf (code % 4) ⌝ }
 {

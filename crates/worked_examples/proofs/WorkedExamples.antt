@@ -17,7 +17,7 @@ use Rattle.ecc.specs.declared.Reading.the-variants.{Corrected, Uncorrectable}
 use Rattle.ecc.specs.Columns.{columns}
 use Rattle.ecc.specs.CheckCode.{bitAt, dataBit, flipColumn, xorOf, checkOf, bitReading, readingOf}
 use Rattle.worked_examples.specs.TwoBanks.{twoBanks, setup}
-use Rattle.worked_examples.specs.OneBank.{oneBank, bankIn}
+use Rattle.worked_examples.specs.OneBank.{oneBank, onlyBank}
 
 -- EX-8, by the law of the way back, since the definition tries each doubleword of the span
 no-address : back setup 1 (record { 0 = 256 }) (record { 0 = 0 }) ≡ refused (17 ∷ [])
@@ -44,9 +44,9 @@ pub worked-examples :
     × (judged (oneBank 0 128 3) ≡ none)
     × (judged (oneBank 0 255 3) ≡ none)
     × (judged (oneBank 0 256 3) ≡ some (13 ∷ 0 ∷ []))
-    × (bankIn 0 127 3 ≡ record { enabled = true; start = 0; last = 127; rows = 12; columns = 12 })
-    × (bankIn 0 128 3 ≡ record { enabled = true; start = 0; last = 128; rows = 13; columns = 12 })
-    × (bankIn 0 255 3 ≡ record { enabled = true; start = 0; last = 255; rows = 13; columns = 12 })
+    × (onlyBank 0 127 3 ≡ record { enabled = true; start = 0; last = 127; rows = 12; columns = 12 })
+    × (onlyBank 0 128 3 ≡ record { enabled = true; start = 0; last = 128; rows = 13; columns = 12 })
+    × (onlyBank 0 255 3 ≡ record { enabled = true; start = 0; last = 255; rows = 13; columns = 12 })
     × (mapped (oneBank 1 256 3) 0x00100000 ≡ given (some (record { bank = 0; row = record { 0 = 32 }; column = record { 0 = 0 }; cell = 131072 })))
     × (mapped (oneBank 1 256 3) 0x0FFFFFFF ≡ given (some (record { bank = 0; row = record { 0 = 8191 }; column = record { 0 = 4095 }; cell = 33554431 })))
     × (mapped (oneBank 1 256 3) 0x100FFFFF ≡ given (some (record { bank = 0; row = record { 0 = 31 }; column = record { 0 = 4095 }; cell = 131071 })))

@@ -1,8 +1,6 @@
 use Prim.Native.Nat.{_%_, _^_}
-use mathlib.Core.Path.{refl}
 use native.Mathlib.Omega.{arith}
-use Rattle.banks.specs.CodeFields.{longestOf}
-use Rattle.banks.proofs.LongestLaws.{one-of-four}
+use Rattle.banks.proofs.LongestLaws.{one-of-four, table-is}
 use borrow.Author.Needs.{needs}
 use Rattle.banks.proofs.longest.Statement.{statement}
 use Rattle.banks.proofs.longest.Tie as tie
@@ -12,8 +10,7 @@ cast-result-2 c =
     record { fits = one-of-four _ _ _ _ (2 ^ 32) (omega arith) (omega arith) (omega arith) (omega arith) (c .args .code % 4) (omega arith) }
 
 returns : tie.Need-returns
-unfolding longestOf
-returns c = refl
+returns c = table-is (c .args .code % 4) (omega arith)
 
 pub longest-spec : {M : Type 1} → statement M
 longest-spec = tie.close (tie.spec (λ c. search needs) (λ c. search needs) (λ c. search needs) cast-result-2 returns)

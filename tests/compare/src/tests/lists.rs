@@ -4,7 +4,7 @@
 use model::code::CELL_BYTES;
 use model::flat::FlatMachine;
 use model::gen::{lists, setups, Rng};
-use model::map;
+use model::map::{self, Layout};
 use model::record::{offset, SWITCH_ON};
 use model::{Call, Outcome, Record};
 
@@ -20,6 +20,9 @@ use crate::ways::{every_bit, every_bit_of_single_calls, met, met_bits, mixtures,
 const LISTS: usize = 1_500;
 const LISTS_IN_LONG_BANKS: usize = 200;
 const CALLS: usize = 400;
+
+/// Stands for a read, write or scrub in a bank with thirteen row bits.
+const LONG_BANK: &str = "long bank";
 
 /// All cells are lent; those never touched take no memory.
 const MOST_CELLS: u32 = 1 << 24;
@@ -42,6 +45,7 @@ pub fn in_long_banks(rng: &mut Rng) -> Result<String, String> {
     };
     check(rng, LISTS_IN_LONG_BANKS, draft, &mut coverage)?;
     coverage.check(wanted_of_single_calls())?;
+    coverage.check(ways(LONG_BANK, &[1, 2, 4], &[]))?;
     Ok(format!("{LISTS_IN_LONG_BANKS} lists, {CALLS} calls each"))
 }
 
@@ -116,7 +120,8 @@ fn difference(
 ) -> Option<(usize, String)> {
     let on = switched_on(off).ok()?;
     let mut flat = FlatMachine::of_record(&on).ok()?;
-    let mut library = State::zeroed(on, CELL_BYTES * map::judge(&on).ok()?.cells() as usize);
+    let layout = map::judge(&on).ok()?;
+    let mut library = State::zeroed(on, CELL_BYTES * layout.cells() as usize);
     for (index, call) in calls.iter().enumerate() {
         let request = Request::Listed(call.clone());
         let from_library = library.ask_library(&request);
@@ -127,11 +132,25 @@ fn difference(
         let from_flat = from_flat(&request, outcome);
         coverage.meet(met(&request, from_flat.way(&request)));
         coverage.extend(met_bits(&request, &from_flat));
+        if is_in_long_bank(&layout, call) {
+            coverage.meet((LONG_BANK, from_flat.way(&request)));
+        }
         if let Some(text) = Given::difference(&from_library, &from_flat) {
             return Some((index, text));
         }
     }
     None
+}
+
+/// The doubleword of the call's address is in a bank with thirteen row bits.
+fn is_in_long_bank(layout: &Layout, call: &Call) -> bool {
+    let (Call::Read { address, .. } | Call::Write { address, .. } | Call::Scrub { address }) = call
+    else {
+        return false;
+    };
+    let place = layout.locate(*address);
+    let bank = place.and_then(|place| layout.banks[usize::from(place.bank)]);
+    bank.is_some_and(|bank| bank.row_bits == 13)
 }
 
 /// LIST-8, LIST-9: what the library has to give for an outcome of the flat

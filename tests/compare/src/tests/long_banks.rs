@@ -17,7 +17,7 @@ use crate::request::Request;
 use crate::ways::{ways, Met};
 
 /// Lengths in MB: the longest of each row code and of twelve row bits, with
-/// their neighbours, and the whole address space.
+/// their neighbours, and the longest span that ten bits can name.
 const LENGTHS: [u32; 16] = [
     1, 2, 3, 7, 8, 9, 31, 32, 33, 127, 128, 129, 255, 256, 257, 1024,
 ];
@@ -59,6 +59,7 @@ pub fn together(rng: &mut Rng) -> Result<String, String> {
         check_alike(rng, &switched_on(&off), &mut coverage)?;
     }
     coverage.check(judgements())?;
+    coverage.check(ways("judge", &[], &[14]))?;
     coverage.check(ways("alike", &[0, 1], &[5]))?;
     coverage.check(ways("count", &[0], &[5]))?;
     Ok(format!("{SETUPS} records, {NEIGHBOURS} others for each"))
@@ -78,12 +79,14 @@ fn starts(length: u32) -> Vec<u32> {
     starts
 }
 
-/// Banks one behind the other, in any order of their numbers and with gaps.
+/// Banks one behind the other, in any order of their numbers and with gaps; now
+/// and then two of them meet.
 fn several(rng: &mut Rng) -> Record {
     let mut off = Record::fresh();
-    let first = rng.below(8) as u8;
     let mut next = rng.below(40);
-    for n in 0..8 {
+    let mut numbers: Vec<u8> = (0..8).collect();
+    while !numbers.is_empty() {
+        let n = numbers.swap_remove(rng.below(numbers.len() as u32) as usize);
         let length = match rng.below(40) {
             0 => 257,
             _ => rng.pick(&TOGETHER),
@@ -92,8 +95,13 @@ fn several(rng: &mut Rng) -> Record {
             break;
         }
         let code = if rng.percent(95) { 3 } else { rng.byte() & 3 };
-        draw::set_bank(&mut off, (first + n) % 8, next, next + length - 1, code);
-        next += length + rng.pick(&[0, 0, 0, 1, 7]);
+        draw::set_bank(&mut off, n, next, next + length - 1, code);
+        let gap = if rng.percent(98) {
+            rng.pick(&[0, 0, 1, 7])
+        } else {
+            -1
+        };
+        next = next.wrapping_add_signed(length as i32 + gap);
     }
     off
 }
@@ -190,16 +198,20 @@ fn check_alike(rng: &mut Rng, record: &Record, coverage: &mut Coverage<Met>) -> 
     .check(coverage)
 }
 
-/// The record with another row code, with a bank that is shorter or longer by
-/// 1 MB, or with changes that do not matter.
+/// The record with other row codes, with a bank that ends 1 MB earlier or later,
+/// or with changes that do not matter.
 fn neighbour(rng: &mut Rng, record: &Record) -> Record {
     let bank = rng.below(8) as u8;
     let mut other = *record;
-    let last = offset::LAST + bank;
+    let mut set_last = |last_mb: u32| {
+        let [low, extended, ..] = last_mb.to_le_bytes();
+        other.set(offset::LAST + bank, low);
+        other.set(offset::LAST_EXTENDED + bank, extended);
+    };
     match rng.below(4) {
         0 => other.set(offset::ROW_CODES_LOW + bank / 4, rng.byte()),
-        1 => other.set(last, record.at(last).wrapping_add(1)),
-        2 => other.set(last, record.at(last).wrapping_sub(1)),
+        1 => set_last((record.last_mb(bank) + 1) % MEGABYTES),
+        2 => set_last(record.last_mb(bank).saturating_sub(1)),
         _ => return draw::harmless_change(rng, record),
     }
     other

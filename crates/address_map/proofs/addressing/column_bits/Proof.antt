@@ -10,13 +10,12 @@ use Rattle.address_map.proofs.addressing.column_bits.Tie as tie
 
 returns : tie.Need-returns
 returns c =
-    let s = c .before .before in
+    let s = c .before in
     let a = s .args in
     let f = a .fields .now in
-    let e : 17 + a .bits - c .row-bits .result ≡ bank (setupIn f) (a .n) .columns = rw (c .row-bits .ensures .0, c .before .row-code .ensures .0, s .pre .3) (columns-are f (a .n) (s .pre .0) (s .pre .1) (s .pre .2)) in
-    (e, rw e (bounded-in f (s .pre .0) (a .n) .columns-most))
+    let h = bounded-in f (s .pre .0) (a .n) in
+    let e : 17 + a .bits - c .row-bits .result ≡ bank (setupIn f) (a .n) .columns = rw (c .row-bits .ensures .0, s .pre .3) (columns-are (bank (setupIn f) (a .n)) h) in
+    (e, rw e (h .columns-most))
 
 pub column-bits-spec : {M : Type 1} → statement M
-column-bits-spec =
-    tie.close
-    (tie.spec (λ c. search needs) (λ c κs. search needs) (λ c κs. search needs) (λ c. search needs) returns)
+column-bits-spec = tie.close (tie.spec (λ c. search needs) (λ c κs. search needs) (λ c. search needs) returns)

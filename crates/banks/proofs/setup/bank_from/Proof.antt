@@ -1,5 +1,5 @@
 use Prim.Native.Nat.{_<_}
-use mathlib.Core.Path.{_≡_, sym}
+use mathlib.Core.Path.{_≡_}
 use native.Mathlib.Omega.{arith}
 use Rattle.banks.specs.Setup.{megabytes}
 use Rattle.banks.proofs.FieldLaws.{rows-by-code, rows-by-length, long-columns}

@@ -18,8 +18,8 @@ returns c =
     let s = c .before .before .before .before .before .before .before .before in
     let f = s .args .fields .now in
     let n = s .args .n in
-    let start = c .before .before .before .start-of .ensures in
-    let last = c .before .before .before .before .last-of .ensures in
+    let start = c .before .before .before .megabyte-at2 .ensures in
+    let last = c .before .before .before .before .megabyte-at .ensures in
     let w = c .before .before .wrapping-sub-u32 in
     let code = c .before .row-code .ensures in
     let v : Fits w32 (w .result) = search needs in
@@ -39,4 +39,4 @@ returns-2 c =
 pub is-faulty-spec : {M : Type 1} → statement M
 is-faulty-spec =
     tie.close
-    (tie.spec (λ c. search needs) (λ c κs. search needs) (λ c κs. search needs) (λ c κs. search needs) (λ c κs. search needs) (λ c κs. search needs) (λ c κs. search needs) returns returns-2)
+    (tie.spec (λ c. search needs) (λ c κs. search needs) (λ c. search needs) (λ c κs. search needs) (λ c κs. search needs) (λ c κs. search needs) (λ c κs. search needs) (λ c κs. search needs) returns returns-2)

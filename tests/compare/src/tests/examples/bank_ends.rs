@@ -69,7 +69,7 @@ const LINES_AT_ENDS: [(&str, &str); 3] = [
     ),
 ];
 
-/// EX-11, EX-12, REG-5: banks that end at MB 255, 256 and 1023.
+/// EX-11, REG-5: banks that end at MB 255, 256 and 1023.
 pub fn bank_ends(busline: &Busline) -> Result<String, String> {
     for end in &ENDS {
         for bank in [0, 5] {

@@ -39,9 +39,20 @@ pub fn places_and_lengths() -> Result<String, String> {
         one_bank(length, 3)?.set(0xF2, 8, ACCEPTED)?;
     }
     one_bank(257, 3)?.set(0xF2, 8, 13)?;
+    thirteen_row_bits()?;
     Sides::new(0).set(0xF2, 8, 11)?;
     different_registers_can_be_alike()?;
     Ok("the specification".to_string())
+}
+
+/// EX-12
+fn thirteen_row_bits() -> Result<(), String> {
+    let writes = [(0x80, 1), (0x98, 1), (0xA0, 1), (0xF0, 3), (0xF2, 8)];
+    let mut sides = Sides::with(0, &writes)?;
+    sides.place(0x0010_0000, [0, 32, 0, 131_072])?;
+    sides.place(0x0FFF_FFFF, [0, 8191, 4095, 33_554_431])?;
+    sides.place(0x100F_FFFF, [0, 31, 4095, 131_071])?;
+    sides.back(0, 8191, 4095, 0x0FFF_FFF8)
 }
 
 /// The interface's own examples: numbers that would be in range if they were

@@ -70,11 +70,13 @@ fn calls(rng: &mut Rng, layout: &Layout) -> Vec<Call> {
     let mut calls = Vec::new();
     for corner in corners(layout) {
         let first = corner & !7;
+        // Behind the last address comes the first.
+        let next = first.wrapping_add(8);
         let both = Call::Read {
             address: first + 5,
             count: 8,
         };
-        calls.extend([first, first + 8].map(|address| Call::Write {
+        calls.extend([first, next].map(|address| Call::Write {
             address,
             bytes: rng.bytes(8),
         }));
@@ -85,7 +87,7 @@ fn calls(rng: &mut Rng, layout: &Layout) -> Vec<Call> {
                 count: 1,
             },
         ]);
-        calls.extend([first, first + 8].map(|address| Call::Flip {
+        calls.extend([first, next].map(|address| Call::Flip {
             address,
             bit: rng.below(72) as u8,
         }));
@@ -95,7 +97,7 @@ fn calls(rng: &mut Rng, layout: &Layout) -> Vec<Call> {
                 address: first,
                 bytes: rng.bytes(3),
             },
-            Call::Scrub { address: first + 8 },
+            Call::Scrub { address: next },
             Call::BurstRead {
                 address: first,
                 count: 32,
@@ -121,8 +123,8 @@ fn same(
     }
 }
 
-/// REF-9 at every corner that has a cell: the cell's first byte alone, all but its last, and
-/// all of it lent. The number of lengths tried.
+/// REF-9 at every corner that has a cell: of the cell one byte, all but its last
+/// and all of it lent. The number of lengths tried.
 fn just_lent(record: &Record, layout: &Layout) -> Result<usize, String> {
     let places = corners(layout)
         .into_iter()
