@@ -1,6 +1,6 @@
 /*
  * Switches on two banks (bank 0: megabytes 0 to 1, 9 row bits; bank 1: megabytes 2 to 4, 10 row bits),
- * writes, inverts bits, reads, and prints the answers.
+ * writes, inverts bits, reads, loads an image, and prints the answers.
  *
  *   tools/install "$HOME/.local"
  *   export PKG_CONFIG_PATH=$HOME/.local/lib/pkgconfig
@@ -12,11 +12,11 @@
 #include <mpc106.h>
 
 static mpc106_record record;
-static mpc106_memory memory = {&record, NULL, 0};
+static mpc106_memory memory;
 
-static const char *kind_name(uint32_t part)
+static const char *kind_name(uint32_t kind)
 {
-    switch (MPC106_KIND(part)) {
+    switch (kind) {
     case MPC106_CLEAN: return "clean";
     case MPC106_CORRECTED: return "corrected";
     case MPC106_UNCORRECTABLE: return "uncorrectable";
@@ -34,7 +34,7 @@ static int print_refusal(uint32_t result)
         return 0;
     printf("refusal %u, %s", number, mpc106_refusal_text(result));
     if (MPC106_START_ABOVE_END <= number && number <= MPC106_OVERLAP)
-        printf(" (bank %u)", MPC106_REFUSED_BANK(result));
+        printf(" (bank %u)", MPC106_REFUSED_VALUE(result));
     printf("\n");
     return 1;
 }
@@ -45,7 +45,7 @@ static void print_answer(const char *call, uint32_t address, uint32_t result, co
     if (print_refusal(result))
         return;
     for (uint32_t i = 0; i < answer->count; i++) {
-        printf("%s%s", i == 0 ? "" : ", ", kind_name(answer->part[i]));
+        printf("%s%s", i == 0 ? "" : ", ", kind_name(MPC106_KIND(answer->part[i])));
         if (MPC106_KIND(answer->part[i]) == MPC106_CORRECTED)
             printf(" bit %u", MPC106_FLIP_BIT(answer->part[i]));
     }
@@ -67,6 +67,11 @@ static void show_register(uint32_t offset)
     printf("register %02x: ", offset);
     if (!print_refusal(result))
         printf("%02x\n", value);
+}
+
+static void show_error_address(void)
+{
+    printf("error address: %08x\n", mpc106_error_address(&record));
 }
 
 static void show_place(uint32_t address)
@@ -111,6 +116,30 @@ static void write_bytes(uint32_t address, const uint8_t *bytes, size_t count)
     print_answer("write", address, result, &answer);
 }
 
+/* As the processor of the board reads a word: one number, whichever doublewords its bytes are in. */
+static void read_word(uint32_t address)
+{
+    uint32_t word = 0;
+    mpc106_answer answer;
+    uint32_t result = mpc106_read_32(&memory, address, &word, &answer);
+    printf("word %08x: ", address);
+    if (!print_refusal(result))
+        printf("%08x, %s\n", word, kind_name(mpc106_worst_kind(&answer)));
+}
+
+static void load(uint32_t address, const uint8_t *image, size_t length)
+{
+    uint32_t result;
+    mpc106_answer answer;
+    size_t stored = mpc106_load(&memory, address, image, length, &result, &answer);
+    printf("load %08x: %zu of %zu bytes", address, stored, length);
+    if (result != 0)
+        printf(", refusal %u, %s", MPC106_REFUSAL(result), mpc106_refusal_text(result));
+    else if (stored < length)
+        printf(", %s", kind_name(mpc106_worst_kind(&answer)));
+    printf("\n");
+}
+
 static void flip(uint32_t address, uint32_t bit)
 {
     uint32_t result = mpc106_flip(&memory, address, bit);
@@ -150,8 +179,7 @@ static int lend_cells(void)
     if (print_refusal(result))
         return 0;
     printf("%u\n", count);
-    memory.cells = calloc(count, MPC106_CELL_BYTES);
-    memory.cells_length = (size_t)count * MPC106_CELL_BYTES;
+    memory = mpc106_lend(&record, calloc(count, MPC106_CELL_BYTES), (size_t)count * MPC106_CELL_BYTES);
     return memory.cells != NULL;
 }
 
@@ -194,7 +222,7 @@ static void run_into_the_next(void)
     read_bytes(0x00001006, 4);
     read_bytes(0x004ffffe, 4);
     show_register(MPC106_ERROR_DETECTION_1);
-    show_register(MPC106_ERROR_ADDRESS + 2);
+    show_error_address();
     set_register(MPC106_ERROR_DETECTION_1, 0x20); /* clears the bit, so that the next one is reported too */
 }
 
@@ -202,9 +230,20 @@ static void leave_the_banks(void)
 {
     read_bytes(0x00500000, 2);
     show_register(MPC106_ERROR_DETECTION_1);
-    show_register(MPC106_ERROR_ADDRESS + 2);
+    show_error_address();
     read_bytes(0xffffffff, 2);
     flip(0x00001008, 72);
+}
+
+/* The second image runs past the last bank; what is before its end is stored. */
+static void load_images(void)
+{
+    static const uint8_t image[12] = {1, 2, 3, 4, 5, 6, 7, 8, 9, 10, 11, 12};
+
+    load(0x00001ffa, image, sizeof image);
+    read_word(0x00001ffe);
+    load(0x004ffffa, image, sizeof image);
+    read_word(0x004ffffe);
 }
 
 /* Numbers that would be in range if they were cut to a byte. */
@@ -224,6 +263,7 @@ int main(void)
     turn_bits_over();
     run_into_the_next();
     leave_the_banks();
+    load_images();
     go_out_of_range();
     free(memory.cells);
     return 0;

@@ -14,25 +14,27 @@
  *   uint32_t count;
  *   mpc106_cell_count(&record, &count);
  *   uint8_t *cells = calloc(count, MPC106_CELL_BYTES);
- *   mpc106_memory memory = {&record, cells, (size_t)count * MPC106_CELL_BYTES};
+ *   mpc106_memory memory = mpc106_lend(&record, cells, (size_t)count * MPC106_CELL_BYTES);
  *   mpc106_answer answer;
- *   uint8_t buffer[8];
- *   if (mpc106_read(&memory, 0x1008, buffer, 8, &answer) == 0 && MPC106_KIND(answer.part[0]) == MPC106_CLEAN) ..
+ *   uint32_t word;
+ *   if (mpc106_read_32(&memory, 0x1008, &word, &answer) == 0 && mpc106_worst_kind(&answer) == MPC106_CLEAN) ..
  *
  * RESULTS
- *   A call that is accepted returns 0, and puts what it gives where its last pointer points.
+ *   A call that is accepted returns 0, and puts what it gives where its last pointer points. mpc106_load alone makes
+ *   several calls, and returns a count.
  *   A call that is refused returns why: the number of the refusal in the low byte, MPC106_REFUSAL(result), and in
- *   the next byte the bank that refusals 12 to 14 are about, MPC106_REFUSED_BANK(result), or 0 for any other.
+ *   the next byte what it is about, MPC106_REFUSED_VALUE(result): the bank of refusals 12 to 14, and 0 for any other.
  *   mpc106_refusal_text(result) says it in words.
  *   No call fails in any other way, on any input. A REFUSED CALL LEAVES EVERYTHING AS IT WAS: record, cells,
  *   buffer, and what its other pointers point to.
  *   If two refusals apply, the lower number is returned, except that 10, 19 and 20 come before 9, and that switching
- *   on looks for 11; then for 12 and 13, bank by bank upward; then for 14, at the lowest such bank.
+ *   on looks for 11; then through the banks in ascending order, at each for 12 and then 13; last for 14, whose bank
+ *   is the lowest that has it.
  *
  * WHAT IS LENT
- *   record   an mpc106_record. Make it with mpc106_fresh; it may be copied, and stored as a save state and loaded
- *            again, just as it is. Its bytes may also be set by hand, since each call judges the record again
- *            (refusal 5); of its extended bytes only bits 0 and 1 count. Later versions may add members to it.
+ *   record   an mpc106_record. Make it with mpc106_fresh or mpc106_from_registers; it may be copied. Its bytes may
+ *            also be set by hand, since each call judges the record again (refusal 5); of its extended bytes only
+ *            bits 0 and 1 count. Later versions may add members to it.
  *   cells    the memory's own bytes, nine for each doubleword of 8 bytes: eight data bytes, then the
  *            check byte. Cell k starts at 9 * k; mpc106_map gives the cell of an address. Nine zero
  *            bytes are a valid cell that holds zeros. mpc106_cell_count says how many a set-up needs. If fewer
@@ -41,25 +43,31 @@
  *   Pointers must not be null, not even with a length of 0, and what a call may change must not overlap anything
  *   else that the call is lent.
  *
+ * SAVE STATES
+ *   Record and cells are all the state that there is. Store the bytes of both, and MPC106_VERSION with them; the same
+ *   version loads them as they are. Every version up to this one has a record of 256 bytes, its registers, and the same
+ *   cells. A later one may add to the record: it loads the 256 bytes of an earlier one by mpc106_from_registers, which
+ *   makes a fresh record and puts the registers in, so that whatever was added is as if it had never been set.
+ *
  * REGISTERS
- *   Offsets are hexadecimal; n is a bank, 0 to 7; bit 0 is the lowest. A megabyte is 2^20 bytes.
+ *   Offsets are written in hexadecimal, n stands for one of the eight banks, and bit 0 is the lowest. A megabyte is 2^20 bytes.
  *
  *   80+n     start of bank n in megabytes, low eight bits
  *   88+n     the same, extended: bits 8 and 9, a value of 0 to 3
  *   90+n     last megabyte of bank n, inclusive, low eight bits
  *   98+n     the same, extended: bits 8 and 9, a value of 0 to 3
  *   A0       bit n enables bank n
- *   B8       single-bit counter: each MPC106_CORRECTED raises it by one, stopping at 255
+ *   B8       single-bit counter: each MPC106_CORRECTED adds one to it, up to 255
  *   B9       single-bit trigger
  *   C0       error enables 1: bit 5 lets C1 bit 5 be set, and bit 2 C1 bit 2; its other bits do nothing
  *   C1       error detection 1: bit 5, a part of a read, write, scrub or burst found no bank; bit 2, B8 rose and was
- *            then equal to B9. Writing a 1 clears that bit
+ *            then equal to B9. A bit that is 1 in what is written is cleared
  *   C4       error enables 2: bit 3 lets C5 bit 3 be set; its other bits do nothing
- *   C5       error detection 2: bit 3, a doubleword was uncorrectable. Writing a 1 clears that bit
- *   C8..CB   error address, lowest byte first, read only: the address of the last call that set a bit of C1 or C5
+ *   C5       error detection 2: bit 3, a doubleword was uncorrectable. Cleared as in C1
+ *   C8..CB   error address, four bytes from the lowest up, which cannot be written: the address of the last call that set a bit of C1 or C5
  *            while all bits of both were zero, as the call was given it and not rounded down to its doubleword.
  *            Each part of a split read or write and each beat of a burst counts as a call here, with its own address
- *   F0, F1   row codes, two bits for each bank: banks 0 to 3 from the low end of F0, 4 to 7 of F1. Codes
+ *   F0, F1   row codes: for n from 0 to 3, bits 2n and 2n + 1 of F0 are that of bank n, those of F1 that of bank n + 4. Codes
  *            0, 1, 2 mean 9, 10, 11 row bits. With code 3 a bank has 12 row bits if its length is at most 128
  *            megabytes, and 13 otherwise. The longest bank of code 0, 1, 2, 3 has 2, 8, 32, 256 megabytes
  *   F2       bit 3 switches memory on: write 8 for on, 0 for off, and no other value
@@ -67,8 +75,9 @@
  *   80 to A0, F0 and F1 can be written only while memory is off. No other offset has a register.
  *
  * OTHER LANGUAGES
- *   The calls here are short inline functions over the functions mpc106_raw_*, which are what the archive contains
- *   and what is proved. Those take only bytes and numbers, and any language that can call C can call them.
+ *   The calls here are short inline functions over those of the archive, which are what is proved. Those take only
+ *   bytes and numbers, and any language that can call C can call them. Their names are mpc106_vN_read and so on,
+ *   where N is the major version.
  */
 #ifndef MPC106_H
 #define MPC106_H
@@ -77,10 +86,19 @@
 #include <stdint.h>
 
 /* The version of this interface: a program that compiles with one compiles with every later one of the same major version. */
-#define MPC106_VERSION_MAJOR 3
-#define MPC106_VERSION_MINOR 1
+#define MPC106_VERSION_MAJOR 4
+#define MPC106_VERSION_MINOR 0
 #define MPC106_VERSION_PATCH 0
 #define MPC106_VERSION (MPC106_VERSION_MAJOR * 10000 + MPC106_VERSION_MINOR * 100 + MPC106_VERSION_PATCH)
+
+/*
+ * The name of a function of the archive: MPC106_RAW(read) is mpc106_vN_read, where N is the major version. So a program
+ * compiled with a header of another major version finds none of its functions in the archive, and is not linked.
+ * The name is joined to something at once, so that a program may have a macro of that name.
+ */
+#define MPC106_RAW(name) MPC106_JOINED(MPC106_VERSION_MAJOR, _##name)
+#define MPC106_JOINED(major, rest) MPC106_PASTED(major, rest)
+#define MPC106_PASTED(major, rest) mpc106_v##major##rest
 
 /* The number of bytes of a cell and of a cache line, and the most parts that an answer has. */
 #define MPC106_CELL_BYTES 9
@@ -105,13 +123,13 @@
 
 /* What the result of a refused call says. */
 #define MPC106_REFUSAL(result) ((result) & 0xffu)
-#define MPC106_REFUSED_BANK(result) (((result) >> 8) & 0xffu)
+#define MPC106_REFUSED_VALUE(result) (((result) >> 8) & 0xffu)
 
 /* The refusals. No call returns 18. */
 enum mpc106_refusal {
     MPC106_UNLISTED_OFFSET = 1,         /* the offset has no register */
     MPC106_READ_ONLY = 2,               /* a write at C8 to CB */
-    MPC106_VALUE_OUT_OF_RANGE = 3,      /* an extended byte above 3; F2 neither 0 nor 8 */
+    MPC106_VALUE_OUT_OF_RANGE = 3,      /* extended bytes take 0 to 3, F2 takes 0 or 8 */
     MPC106_LOCKED_WHILE_ON = 4,         /* a write at 80 to A0, F0 or F1 while memory is on */
     MPC106_NOT_READY = 5,               /* memory is off, or the record would not be switched on */
     MPC106_COUNT_OUT_OF_RANGE = 6,      /* a count of 0 or above 8 */
@@ -154,7 +172,10 @@ typedef struct mpc106_record {
     uint8_t registers[256];
 } mpc106_record;
 
-/* What is lent to a memory call: the record, and the cells with their length in bytes. */
+/*
+ * What is lent to a memory call: the record, and the cells with their length in bytes. Fill it with mpc106_lend, which
+ * also fills the members that later versions add.
+ */
 typedef struct mpc106_memory {
     mpc106_record *record;
     uint8_t *cells;
@@ -181,7 +202,7 @@ typedef struct mpc106_place {
 } mpc106_place;
 
 /*
- * What the archive contains. Each mpc106_raw_NAME does what mpc106_NAME below does, and returns the same. Its parameters:
+ * What the archive contains. Each MPC106_RAW(NAME) does what mpc106_NAME below does, and returns the same. Its parameters:
  *   registers, first, second       the 256 bytes of a record
  *   cells, cells_length            the lent cells, and how many bytes they have
  *   buffer or bytes, its length    of a read, write or burst; the length is the count of bytes
@@ -193,27 +214,27 @@ typedef struct mpc106_place {
 #ifdef __cplusplus
 extern "C" {
 #endif
-void mpc106_raw_fresh(uint8_t registers[256]);
-uint32_t mpc106_raw_judge(const uint8_t registers[256]);
-uint32_t mpc106_raw_cell_count(const uint8_t registers[256], uint32_t count[1]);
-uint32_t mpc106_raw_register_read(const uint8_t registers[256], uint32_t offset, uint8_t value[1]);
-uint32_t mpc106_raw_register_write(uint8_t registers[256], uint32_t offset, uint8_t value);
-uint32_t mpc106_raw_map(const uint8_t registers[256], uint32_t address, uint32_t place[5]);
-uint32_t mpc106_raw_way_back(const uint8_t registers[256], uint32_t bank, uint32_t row, uint32_t column,
-                             uint32_t address[1]);
-uint32_t mpc106_raw_alike(const uint8_t first[256], const uint8_t second[256], uint32_t alike[1]);
-uint32_t mpc106_raw_read(uint8_t registers[256], const uint8_t *cells, size_t cells_length, uint32_t address,
-                         uint8_t *buffer, size_t buffer_length, uint32_t answer[5]);
-uint32_t mpc106_raw_write(uint8_t registers[256], uint8_t *cells, size_t cells_length, uint32_t address,
-                          const uint8_t *bytes, size_t bytes_length, uint32_t answer[5]);
-uint32_t mpc106_raw_flip(const uint8_t registers[256], uint8_t *cells, size_t cells_length, uint32_t address,
-                         uint32_t bit);
-uint32_t mpc106_raw_scrub(uint8_t registers[256], uint8_t *cells, size_t cells_length, uint32_t address,
-                          uint32_t answer[5]);
-uint32_t mpc106_raw_burst_read(uint8_t registers[256], const uint8_t *cells, size_t cells_length, uint32_t address,
-                               uint8_t *buffer, size_t buffer_length, uint32_t answer[5]);
-uint32_t mpc106_raw_burst_write(uint8_t registers[256], uint8_t *cells, size_t cells_length, uint32_t address,
-                                const uint8_t *bytes, size_t bytes_length, uint32_t answer[5]);
+void MPC106_RAW(fresh)(uint8_t registers[256]);
+uint32_t MPC106_RAW(judge)(const uint8_t registers[256]);
+uint32_t MPC106_RAW(cell_count)(const uint8_t registers[256], uint32_t count[1]);
+uint32_t MPC106_RAW(register_read)(const uint8_t registers[256], uint32_t offset, uint8_t value[1]);
+uint32_t MPC106_RAW(register_write)(uint8_t registers[256], uint32_t offset, uint8_t value);
+uint32_t MPC106_RAW(map)(const uint8_t registers[256], uint32_t address, uint32_t place[5]);
+uint32_t MPC106_RAW(way_back)(const uint8_t registers[256], uint32_t bank, uint32_t row, uint32_t column,
+                              uint32_t address[1]);
+uint32_t MPC106_RAW(alike)(const uint8_t first[256], const uint8_t second[256], uint32_t alike[1]);
+uint32_t MPC106_RAW(read)(uint8_t registers[256], const uint8_t *cells, size_t cells_length, uint32_t address,
+                          uint8_t *buffer, size_t buffer_length, uint32_t answer[5]);
+uint32_t MPC106_RAW(write)(uint8_t registers[256], uint8_t *cells, size_t cells_length, uint32_t address,
+                           const uint8_t *bytes, size_t bytes_length, uint32_t answer[5]);
+uint32_t MPC106_RAW(flip)(const uint8_t registers[256], uint8_t *cells, size_t cells_length, uint32_t address,
+                          uint32_t bit);
+uint32_t MPC106_RAW(scrub)(uint8_t registers[256], uint8_t *cells, size_t cells_length, uint32_t address,
+                           uint32_t answer[5]);
+uint32_t MPC106_RAW(burst_read)(uint8_t registers[256], const uint8_t *cells, size_t cells_length, uint32_t address,
+                                uint8_t *buffer, size_t buffer_length, uint32_t answer[5]);
+uint32_t MPC106_RAW(burst_write)(uint8_t registers[256], uint8_t *cells, size_t cells_length, uint32_t address,
+                                 const uint8_t *bytes, size_t bytes_length, uint32_t answer[5]);
 #ifdef __cplusplus
 }
 #endif
@@ -254,18 +275,41 @@ static inline const char *mpc106_refusal_text(uint32_t result)
  */
 static inline void mpc106_fresh(mpc106_record *record)
 {
-    mpc106_raw_fresh(record->registers);
+    MPC106_RAW(fresh)(record->registers);
+}
+
+/*
+ * Makes a fresh record with these registers, those of a save state: whatever a record has besides is as mpc106_fresh
+ * leaves it. It cannot be refused; a record that could not be switched on gets refusal 5 when it is used.
+ */
+static inline void mpc106_from_registers(mpc106_record *record, const uint8_t registers[256])
+{
+    mpc106_fresh(record);
+    for (size_t offset = 0; offset < sizeof record->registers; offset++)
+        record->registers[offset] = registers[offset];
+}
+
+/*
+ * What is lent to memory calls: this record, and these cells, which have cells_length bytes.
+ */
+static inline mpc106_memory mpc106_lend(mpc106_record *record, uint8_t *cells, size_t cells_length)
+{
+    mpc106_memory memory;
+    memory.record = record;
+    memory.cells = cells;
+    memory.cells_length = cells_length;
+    return memory;
 }
 
 /*
  * What switching the record on would return, whether or not memory is on. Changes nothing.
- * Refused: 11; then 12 and 13, bank by bank upward; then 14, at the lowest such bank. All but 11 also return the
- * bank. So if bank 0 is too long and bank 1 starts above its end, 13 is returned, and 14 comes last of all.
+ * Refused: 11; then, with the banks in ascending order, 12 and 13; last 14, with the lowest bank that has it. All
+ * but 11 also return the bank. So if bank 0 is too long and bank 1 starts above its end, 13 is returned, and 14 comes last of all.
  * Disabled banks are ignored.
  */
 static inline uint32_t mpc106_judge(const mpc106_record *record)
 {
-    return mpc106_raw_judge(record->registers);
+    return MPC106_RAW(judge)(record->registers);
 }
 
 /*
@@ -278,7 +322,7 @@ static inline uint32_t mpc106_judge(const mpc106_record *record)
  */
 static inline uint32_t mpc106_cell_count(const mpc106_record *record, uint32_t *count)
 {
-    return mpc106_raw_cell_count(record->registers, count);
+    return MPC106_RAW(cell_count)(record->registers, count);
 }
 
 /*
@@ -287,7 +331,7 @@ static inline uint32_t mpc106_cell_count(const mpc106_record *record, uint32_t *
  */
 static inline uint32_t mpc106_register_read(const mpc106_record *record, uint32_t offset, uint8_t *value)
 {
-    return mpc106_raw_register_read(record->registers, offset, value);
+    return MPC106_RAW(register_read)(record->registers, offset, value);
 }
 
 /*
@@ -299,7 +343,21 @@ static inline uint32_t mpc106_register_read(const mpc106_record *record, uint32_
  */
 static inline uint32_t mpc106_register_write(mpc106_record *record, uint32_t offset, uint8_t value)
 {
-    return mpc106_raw_register_write(record->registers, offset, value);
+    return MPC106_RAW(register_write)(record->registers, offset, value);
+}
+
+/*
+ * The error address, C8 to CB, as one number. It cannot be refused.
+ */
+static inline uint32_t mpc106_error_address(const mpc106_record *record)
+{
+    uint32_t address = 0;
+    for (uint32_t place = 0; place < 4; place++) {
+        uint8_t value = 0;
+        mpc106_register_read(record, MPC106_ERROR_ADDRESS + place, &value);
+        address |= (uint32_t)value << 8 * place;
+    }
+    return address;
 }
 
 /*
@@ -308,7 +366,7 @@ static inline uint32_t mpc106_register_write(mpc106_record *record, uint32_t off
  */
 static inline uint32_t mpc106_map(const mpc106_record *record, uint32_t address, mpc106_place *place)
 {
-    return mpc106_raw_map(record->registers, address, (uint32_t *)place);
+    return MPC106_RAW(map)(record->registers, address, (uint32_t *)place);
 }
 
 /*
@@ -318,17 +376,17 @@ static inline uint32_t mpc106_map(const mpc106_record *record, uint32_t address,
 static inline uint32_t mpc106_way_back(const mpc106_record *record, uint32_t bank, uint32_t row, uint32_t column,
                                        uint32_t *address)
 {
-    return mpc106_raw_way_back(record->registers, bank, row, column, address);
+    return MPC106_RAW(way_back)(record->registers, bank, row, column, address);
 }
 
 /*
- * Whether every address has the same bank, row and column, or no bank, in both records: 1 or 0.
+ * Whether the two records map all 2^32 addresses in the same way (bank, row and column, or no bank): 1 or 0.
  * The two may be one record.
  * Refused: 5, if memory is off in either record or its banks would not be switched on.
  */
 static inline uint32_t mpc106_alike(const mpc106_record *first, const mpc106_record *second, uint32_t *alike)
 {
-    return mpc106_raw_alike(first->registers, second->registers, alike);
+    return MPC106_RAW(alike)(first->registers, second->registers, alike);
 }
 
 /*
@@ -349,8 +407,8 @@ static inline uint32_t mpc106_alike(const mpc106_record *first, const mpc106_rec
 static inline uint32_t mpc106_read(const mpc106_memory *memory, uint32_t address, uint8_t *buffer, size_t count,
                                    mpc106_answer *answer)
 {
-    return mpc106_raw_read(memory->record->registers, memory->cells, memory->cells_length, address, buffer, count,
-                           (uint32_t *)answer);
+    return MPC106_RAW(read)(memory->record->registers, memory->cells, memory->cells_length, address, buffer, count,
+                            (uint32_t *)answer);
 }
 
 /*
@@ -370,8 +428,8 @@ static inline uint32_t mpc106_read(const mpc106_memory *memory, uint32_t address
 static inline uint32_t mpc106_write(const mpc106_memory *memory, uint32_t address, const uint8_t *bytes, size_t count,
                                     mpc106_answer *answer)
 {
-    return mpc106_raw_write(memory->record->registers, memory->cells, memory->cells_length, address, bytes, count,
-                            (uint32_t *)answer);
+    return MPC106_RAW(write)(memory->record->registers, memory->cells, memory->cells_length, address, bytes, count,
+                             (uint32_t *)answer);
 }
 
 /*
@@ -383,7 +441,7 @@ static inline uint32_t mpc106_write(const mpc106_memory *memory, uint32_t addres
 static inline uint32_t mpc106_flip(const mpc106_memory *memory, uint32_t address, uint32_t bit)
 {
     const mpc106_record *record = memory->record;
-    return mpc106_raw_flip(record->registers, memory->cells, memory->cells_length, address, bit);
+    return MPC106_RAW(flip)(record->registers, memory->cells, memory->cells_length, address, bit);
 }
 
 /*
@@ -394,8 +452,8 @@ static inline uint32_t mpc106_flip(const mpc106_memory *memory, uint32_t address
  */
 static inline uint32_t mpc106_scrub(const mpc106_memory *memory, uint32_t address, mpc106_answer *answer)
 {
-    return mpc106_raw_scrub(memory->record->registers, memory->cells, memory->cells_length, address,
-                            (uint32_t *)answer);
+    return MPC106_RAW(scrub)(memory->record->registers, memory->cells, memory->cells_length, address,
+                             (uint32_t *)answer);
 }
 
 /*
@@ -412,8 +470,8 @@ static inline uint32_t mpc106_scrub(const mpc106_memory *memory, uint32_t addres
 static inline uint32_t mpc106_burst_read(const mpc106_memory *memory, uint32_t address, uint8_t *buffer, size_t count,
                                          mpc106_answer *answer)
 {
-    return mpc106_raw_burst_read(memory->record->registers, memory->cells, memory->cells_length, address, buffer,
-                                 count, (uint32_t *)answer);
+    return MPC106_RAW(burst_read)(memory->record->registers, memory->cells, memory->cells_length, address, buffer,
+                                  count, (uint32_t *)answer);
 }
 
 /*
@@ -427,8 +485,151 @@ static inline uint32_t mpc106_burst_read(const mpc106_memory *memory, uint32_t a
 static inline uint32_t mpc106_burst_write(const mpc106_memory *memory, uint32_t address, const uint8_t *bytes,
                                           size_t count, mpc106_answer *answer)
 {
-    return mpc106_raw_burst_write(memory->record->registers, memory->cells, memory->cells_length, address, bytes,
-                                  count, (uint32_t *)answer);
+    return MPC106_RAW(burst_write)(memory->record->registers, memory->cells, memory->cells_length, address, bytes,
+                                   count, (uint32_t *)answer);
+}
+
+/* How bad a kind is: the higher the number, the worse. */
+static inline int mpc106_badness(uint32_t kind)
+{
+    switch (kind) {
+    case MPC106_CLEAN:
+    case MPC106_STORED: return 1;
+    case MPC106_CORRECTED: return 2;
+    case MPC106_NO_BANK: return 3;
+    case MPC106_UNCORRECTABLE: return 4;
+    default: return 5;
+    }
+}
+
+/*
+ * The worst kind of the parts of an answer, so that no part of a split or of a burst goes unnoticed. From the best on:
+ * MPC106_CLEAN and MPC106_STORED, which one answer never holds both; MPC106_CORRECTED, since the bytes are right;
+ * MPC106_NO_BANK, since nothing that was stored is lost, and firmware that looks for the end of memory expects it;
+ * MPC106_UNCORRECTABLE, since bytes are lost; and a kind that this header does not know.
+ * A refused call has no parts and gives no answer: do not ask for one. Of an answer with count 0 it is 0, no kind.
+ */
+static inline uint32_t mpc106_worst_kind(const mpc106_answer *answer)
+{
+    uint32_t worst = 0;
+    for (uint32_t i = 0; i < answer->count; i++) {
+        uint32_t kind = MPC106_KIND(answer->part[i]);
+        if (i == 0 || mpc106_badness(kind) > mpc106_badness(worst))
+            worst = kind;
+    }
+    return worst;
+}
+
+/*
+ * The number that some bytes are in the byte order of the board, that of the PowerPC: the byte of the lowest address is
+ * the highest of the number, so that data bit 0 of a doubleword is the top bit of a number of 64 bits.
+ */
+static inline uint64_t mpc106_number_of(const uint8_t *bytes, size_t count)
+{
+    uint64_t number = 0;
+    for (size_t i = 0; i < count; i++)
+        number = number << 8 | bytes[i];
+    return number;
+}
+
+/* The reverse: the lowest bytes of a number in the byte order of the board. */
+static inline void mpc106_bytes_of(uint64_t number, uint8_t *bytes, size_t count)
+{
+    for (size_t i = 0; i < count; i++)
+        bytes[i] = (uint8_t)(number >> 8 * (count - 1 - i));
+}
+
+/*
+ * Reads a number of 16, 32 or 64 bits in the byte order of the board, at any address: what mpc106_read of 2, 4 or 8
+ * bytes is, a split where they run into the next doubleword, with the number in place of the buffer.
+ * Refused: 5, 7, 9.
+ */
+static inline uint32_t mpc106_read_16(const mpc106_memory *memory, uint32_t address, uint16_t *value,
+                                      mpc106_answer *answer)
+{
+    uint8_t bytes[2];
+    uint32_t result = mpc106_read(memory, address, bytes, sizeof bytes, answer);
+    if (result == 0)
+        *value = (uint16_t)mpc106_number_of(bytes, sizeof bytes);
+    return result;
+}
+
+static inline uint32_t mpc106_read_32(const mpc106_memory *memory, uint32_t address, uint32_t *value,
+                                      mpc106_answer *answer)
+{
+    uint8_t bytes[4];
+    uint32_t result = mpc106_read(memory, address, bytes, sizeof bytes, answer);
+    if (result == 0)
+        *value = (uint32_t)mpc106_number_of(bytes, sizeof bytes);
+    return result;
+}
+
+static inline uint32_t mpc106_read_64(const mpc106_memory *memory, uint32_t address, uint64_t *value,
+                                      mpc106_answer *answer)
+{
+    uint8_t bytes[8];
+    uint32_t result = mpc106_read(memory, address, bytes, sizeof bytes, answer);
+    if (result == 0)
+        *value = mpc106_number_of(bytes, sizeof bytes);
+    return result;
+}
+
+/*
+ * Writes a number of 16, 32 or 64 bits in the byte order of the board, at any address: what mpc106_write of its 2, 4 or
+ * 8 bytes is.
+ * Refused: 5, 7, 9.
+ */
+static inline uint32_t mpc106_write_16(const mpc106_memory *memory, uint32_t address, uint16_t value,
+                                       mpc106_answer *answer)
+{
+    uint8_t bytes[2];
+    mpc106_bytes_of(value, bytes, sizeof bytes);
+    return mpc106_write(memory, address, bytes, sizeof bytes, answer);
+}
+
+static inline uint32_t mpc106_write_32(const mpc106_memory *memory, uint32_t address, uint32_t value,
+                                       mpc106_answer *answer)
+{
+    uint8_t bytes[4];
+    mpc106_bytes_of(value, bytes, sizeof bytes);
+    return mpc106_write(memory, address, bytes, sizeof bytes, answer);
+}
+
+static inline uint32_t mpc106_write_64(const mpc106_memory *memory, uint32_t address, uint64_t value,
+                                       mpc106_answer *answer)
+{
+    uint8_t bytes[8];
+    mpc106_bytes_of(value, bytes, sizeof bytes);
+    return mpc106_write(memory, address, bytes, sizeof bytes, answer);
+}
+
+/*
+ * Loads an image: writes its bytes from an address on, by one mpc106_write for each doubleword that they reach.
+ * Returns how many bytes are stored, the first ones of the image. ALL OF IT IS LOADED EXACTLY IF THAT IS length.
+ * Otherwise the next call stored nothing, and the load stopped there; what is stored stays. *result is what that call
+ * returned: refusal 5 or 9, or 0 if it was accepted. Then mpc106_worst_kind(answer) is MPC106_NO_BANK, or
+ * MPC106_UNCORRECTABLE where the image begins or ends inside a doubleword that can't be corrected.
+ * If all is loaded, *result is 0 and *answer that of the last call. With no call, or a refused one, answer->count is 0.
+ */
+static inline size_t mpc106_load(const mpc106_memory *memory, uint32_t address, const uint8_t *image, size_t length,
+                                 uint32_t *result, mpc106_answer *answer)
+{
+    size_t stored = 0;
+    *result = 0;
+    answer->count = 0;
+    while (stored < length) {
+        /* It does not pass 2^32: no bank reaches so far, and the load ends where there is none. */
+        uint32_t next = address + (uint32_t)stored;
+        size_t count = 8 - next % 8;
+        if (count > length - stored)
+            count = length - stored;
+        answer->count = 0;
+        *result = mpc106_write(memory, next, image + stored, count, answer);
+        if (*result != 0 || mpc106_badness(mpc106_worst_kind(answer)) > mpc106_badness(MPC106_CORRECTED))
+            break;
+        stored += count;
+    }
+    return stored;
 }
 
 #endif

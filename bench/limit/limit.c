@@ -1,6 +1,6 @@
 /*
  * The limit of speed: read, write, flip, scrub, bursts and map written by hand, as fast as we know how, with the contract of the functions
- * mpc106_raw_* of include/mpc106.h. Nothing is kept between calls: each call judges the record, as in the proved library. Nothing here is proved; the tests
+ * MPC106_RAW(..) of include/mpc106.h. Nothing is kept between calls: each call judges the record, as in the proved library. Nothing here is proved; the tests
  * compare its answers with the library's. Reads and writes that run into the next doubleword are in splits.h, bursts in bursts.c.
  */
 #include "calls.h"

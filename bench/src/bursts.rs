@@ -17,9 +17,7 @@ pub fn read_row(table: &mut Table, row: Row, (a, b, c): Sides) {
         let (cells, length, buffer) = (a.cells.as_ptr(), a.cells.len(), a.buffer.as_mut_ptr());
         let (bytes, answer) = (&mut a.record.bytes, &mut a.numbers);
         // SAFETY: the pointers are to as many bytes as the lengths say.
-        used(unsafe {
-            ffi::mpc106_raw_burst_read(bytes, cells, length, at, buffer, LINE_BYTES, answer)
-        });
+        used(unsafe { ffi::burst_read(bytes, cells, length, at, buffer, LINE_BYTES, answer) });
     });
     let mut model = over(|at| {
         used(memory::burst_read(
@@ -45,9 +43,7 @@ pub fn write_row(table: &mut Table, row: Row, (a, b, c): Sides) {
         let (cells, length, buffer) = (a.cells.as_mut_ptr(), a.cells.len(), a.buffer.as_ptr());
         let (bytes, answer) = (&mut a.record.bytes, &mut a.numbers);
         // SAFETY: the pointers are to as many bytes as the lengths say.
-        used(unsafe {
-            ffi::mpc106_raw_burst_write(bytes, cells, length, at, buffer, LINE_BYTES, answer)
-        });
+        used(unsafe { ffi::burst_write(bytes, cells, length, at, buffer, LINE_BYTES, answer) });
     });
     let mut model = over(|at| {
         used(memory::burst_write(
@@ -75,7 +71,7 @@ pub fn four_reads_row(table: &mut Table, row: Row, (a, b, c): Sides) {
             let buffer = a.buffer[place..place + 8].as_mut_ptr();
             let (bytes, answer) = (&mut a.record.bytes, &mut a.numbers);
             // SAFETY: the pointers are to as many bytes as the lengths say.
-            used(unsafe { ffi::mpc106_raw_read(bytes, cells, length, at, buffer, 8, answer) });
+            used(unsafe { ffi::read(bytes, cells, length, at, buffer, 8, answer) });
         }
     });
     let mut model = over(|at| {
@@ -103,7 +99,7 @@ pub fn four_writes_row(table: &mut Table, row: Row, (a, b, c): Sides) {
             let buffer = a.buffer[place..place + 8].as_ptr();
             let (bytes, answer) = (&mut a.record.bytes, &mut a.numbers);
             // SAFETY: the pointers are to as many bytes as the lengths say.
-            used(unsafe { ffi::mpc106_raw_write(bytes, cells, length, at, buffer, 8, answer) });
+            used(unsafe { ffi::write(bytes, cells, length, at, buffer, 8, answer) });
         }
     });
     let mut model = over(|at| {

@@ -42,7 +42,7 @@ pub fn run(table: &mut Table) {
 fn switching_on(table: &mut Table, off: &model::Record) {
     let mut ours = over(|value| {
         let mut bytes = off.bytes;
-        used(unsafe { ffi::mpc106_raw_register_write(&mut bytes, 0xf2, value as u8) });
+        used(unsafe { ffi::register_write(&mut bytes, 0xf2, value as u8) });
         used(&bytes);
     });
     let mut model = over(|value| {
@@ -59,7 +59,7 @@ fn switching_on(table: &mut Table, off: &model::Record) {
 fn map_row(table: &mut Table, on: &model::Record, addresses: &[u32]) {
     let mut place = [0; 5];
     let mut other = [0; 5];
-    let mut ours = over(|at| used(unsafe { ffi::mpc106_raw_map(&on.bytes, at, &mut place) }));
+    let mut ours = over(|at| used(unsafe { ffi::map(&on.bytes, at, &mut place) }));
     let mut model = over(|at| used(map::map(on, at)));
     let mut limit = over(|at| used(unsafe { limit::limit_map(&on.bytes, at, &mut other) }));
     table.row(
@@ -72,9 +72,7 @@ fn way_back_row(table: &mut Table, on: &model::Record, addresses: &[u32]) {
     let mut address = [0];
     let (row_of, column_of) = (|at: u32| at >> 13, |at: u32| at & 0x1ff);
     let mut ours = over(|at| {
-        used(unsafe {
-            ffi::mpc106_raw_way_back(&on.bytes, 1, row_of(at), column_of(at), &mut address)
-        });
+        used(unsafe { ffi::way_back(&on.bytes, 1, row_of(at), column_of(at), &mut address) });
     });
     let mut model = over(|at| {
         used(map::way_back(
@@ -94,7 +92,7 @@ fn alike_row(table: &mut Table, on: &model::Record, addresses: &[u32]) {
     let other = *on;
     let mut alike = [0];
     let mut ours = over(|_| {
-        used(unsafe { ffi::mpc106_raw_alike(&on.bytes, &other.bytes, &mut alike) });
+        used(unsafe { ffi::alike(&on.bytes, &other.bytes, &mut alike) });
     });
     let mut model = over(|_| used(map::alike(on, &other)));
     table.row(

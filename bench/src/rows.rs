@@ -162,7 +162,7 @@ fn read_row(table: &mut Table, row: Row, (a, b, c): Sides, n: usize) {
         let (cells, length, buffer) = (a.cells.as_ptr(), a.cells.len(), a.buffer.as_mut_ptr());
         let (bytes, answer) = (&mut a.record.bytes, &mut a.numbers);
         // SAFETY: the pointers are to as many bytes as the lengths say.
-        used(unsafe { ffi::mpc106_raw_read(bytes, cells, length, at, buffer, n, answer) });
+        used(unsafe { ffi::read(bytes, cells, length, at, buffer, n, answer) });
     });
     let mut model = over(|at| {
         let buffer = &mut b.buffer[..n];
@@ -182,7 +182,7 @@ fn write_row(table: &mut Table, row: Row, (a, b, c): Sides, n: usize) {
         let (cells, length, buffer) = (a.cells.as_mut_ptr(), a.cells.len(), a.buffer.as_ptr());
         let (bytes, answer) = (&mut a.record.bytes, &mut a.numbers);
         // SAFETY: the pointers are to as many bytes as the lengths say.
-        used(unsafe { ffi::mpc106_raw_write(bytes, cells, length, at, buffer, n, answer) });
+        used(unsafe { ffi::write(bytes, cells, length, at, buffer, n, answer) });
     });
     let mut model = over(|at| {
         let bytes = &b.buffer[..n];
@@ -201,7 +201,7 @@ fn flip_row(table: &mut Table, row: Row, (a, b, c): Sides) {
     let mut ours = over(|at| {
         let (cells, length) = (a.cells.as_mut_ptr(), a.cells.len());
         // SAFETY: the pointer is to as many bytes as the length says.
-        used(unsafe { ffi::mpc106_raw_flip(&a.record.bytes, cells, length, at, at % 72) });
+        used(unsafe { ffi::flip(&a.record.bytes, cells, length, at, at % 72) });
     });
     let mut model = over(|at| {
         used(memory::flip(&b.record, &mut b.cells, at, (at % 72) as u8));
@@ -217,7 +217,7 @@ fn flip_row(table: &mut Table, row: Row, (a, b, c): Sides) {
 fn map_row(table: &mut Table, row: Row, (a, b, c): Sides) {
     // SAFETY: nothing is lent but the record and the place.
     let mut ours = over(|at| {
-        used(unsafe { ffi::mpc106_raw_map(&a.record.bytes, at, &mut a.numbers) });
+        used(unsafe { ffi::map(&a.record.bytes, at, &mut a.numbers) });
     });
     let mut model = over(|at| used(model::map::map(&b.record, at)));
     let mut limit = over(|at| {

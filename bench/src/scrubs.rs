@@ -11,7 +11,7 @@ pub fn row(table: &mut Table, row: Row, (a, b, c): Sides, cells: &Range<usize>) 
         let (cells, length) = (a.cells.as_mut_ptr(), a.cells.len());
         let (bytes, answer) = (&mut a.record.bytes, &mut a.numbers);
         // SAFETY: the pointer is to as many bytes as the length says.
-        used(unsafe { ffi::mpc106_raw_scrub(bytes, cells, length, at, answer) });
+        used(unsafe { ffi::scrub(bytes, cells, length, at, answer) });
     });
     let mut model = restored(b, cells, |b, at| {
         used(memory::scrub(&mut b.record, &mut b.cells, at));

@@ -1,5 +1,5 @@
 //! Switches on two banks (bank 0: megabytes 0 to 1, 9 row bits; bank 1: megabytes 2 to 4, 10 row bits),
-//! writes, inverts bits, reads, and prints the answers, just as `examples/switch_on.c` does.
+//! writes, inverts bits, reads, loads an image, and prints the answers, just as `examples/switch_on.c` does.
 //!
 //! Run `rt staticlib mpc106` in the root of the repository, then `cargo run --example switch_on` in `rust/`.
 use mpc106::{offset, Answer, Column, Kind, Memory, Record, Refusal, Row};
@@ -11,6 +11,7 @@ fn kind_text(kind: Kind) -> String {
         Kind::Uncorrectable => "uncorrectable".to_string(),
         Kind::Stored => "stored".to_string(),
         Kind::NoBank => "no bank".to_string(),
+        Kind::Unknown(number) => format!("unknown {number:#x}"),
     }
 }
 
@@ -42,6 +43,10 @@ fn show_register(record: &Record, offset: u32) {
     );
 }
 
+fn show_error_address(record: &Record) {
+    println!("error address: {:08x}", record.error_address());
+}
+
 fn show_place(record: &Record, address: u32) {
     let given = text(record.map(address), |place| match place {
         Some(p) => format!(
@@ -71,6 +76,23 @@ fn read<const COUNT: usize>(memory: &mut Memory, address: u32) {
 fn write(memory: &mut Memory, address: u32, bytes: &[u8]) {
     let given = memory.write(address, bytes);
     println!("write {address:08x}: {}", answer_text(given));
+}
+
+/// As the processor of the board reads a word: one number, whichever doublewords its bytes are in.
+fn read_word(memory: &mut Memory, address: u32) {
+    let given = memory.read_u32(address);
+    let given = text(given, |(word, answer)| {
+        format!("{word:08x}, {}", kind_text(answer.worst_kind()))
+    });
+    println!("word {address:08x}: {given}");
+}
+
+fn load(memory: &mut Memory, address: u32, image: &[u8]) {
+    let (stored, end) = match memory.load(address, image) {
+        Ok(()) => (image.len(), String::new()),
+        Err(error) => (error.stored, format!(", {}", text(error.given, kind_text))),
+    };
+    println!("load {address:08x}: {stored} of {} bytes{end}", image.len());
 }
 
 fn flip(memory: &mut Memory, address: u32, bit: u32) {
@@ -133,7 +155,7 @@ fn run_into_the_next(memory: &mut Memory) {
     read::<4>(memory, 0x0000_1006);
     read::<4>(memory, 0x004f_fffe);
     show_register(&memory.record, offset::ERROR_DETECTION_1);
-    show_register(&memory.record, offset::ERROR_ADDRESS + 2);
+    show_error_address(&memory.record);
     // clears the bit, so that the next one is reported too
     set_register(&mut memory.record, offset::ERROR_DETECTION_1, 0x20);
 }
@@ -141,9 +163,18 @@ fn run_into_the_next(memory: &mut Memory) {
 fn leave_the_banks(memory: &mut Memory) {
     read::<2>(memory, 0x0050_0000);
     show_register(&memory.record, offset::ERROR_DETECTION_1);
-    show_register(&memory.record, offset::ERROR_ADDRESS + 2);
+    show_error_address(&memory.record);
     read::<2>(memory, 0xffff_ffff);
     flip(memory, 0x0000_1008, 72);
+}
+
+/// The second image runs past the last bank; what is before its end is stored.
+fn load_images(memory: &mut Memory) {
+    let image = [1, 2, 3, 4, 5, 6, 7, 8, 9, 10, 11, 12];
+    load(memory, 0x0000_1ffa, &image);
+    read_word(memory, 0x0000_1ffe);
+    load(memory, 0x004f_fffa, &image);
+    read_word(memory, 0x004f_fffe);
 }
 
 /// Numbers that would be in range if they were cut to a byte.
@@ -161,6 +192,7 @@ fn main() -> Result<(), Refusal> {
     turn_bits_over(&mut memory);
     run_into_the_next(&mut memory);
     leave_the_banks(&mut memory);
+    load_images(&mut memory);
     go_out_of_range(&mut memory);
     Ok(())
 }

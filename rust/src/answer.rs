@@ -1,5 +1,4 @@
 //! Answers: from the library's numbers to enums.
-use crate::Refusal;
 
 /// The most parts that an answer has.
 const PARTS: usize = 4;
@@ -22,6 +21,22 @@ pub enum Kind {
     Stored,
     /// No enabled bank holds the address.
     NoBank,
+    /// What no version up to this one gives, so that another library was linked: the number that stands for a part, or a
+    /// count of parts that is not 1 to 4. Nothing is promised of such a call, not that it left anything as it was.
+    Unknown(u32),
+}
+
+impl Kind {
+    /// The higher, the worse.
+    fn badness(self) -> u8 {
+        match self {
+            Kind::Clean | Kind::Stored => 1,
+            Kind::Corrected(_) => 2,
+            Kind::NoBank => 3,
+            Kind::Uncorrectable => 4,
+            Kind::Unknown(_) => 5,
+        }
+    }
 }
 
 /// One part of an answer: what one doubleword gave.
@@ -46,9 +61,14 @@ impl Answer {
         &self.parts[..self.count]
     }
 
-    /// The kind of the first part: of a split or a burst, that of its first access alone; see [`kinds`](Answer::kinds).
-    pub fn kind(&self) -> Kind {
-        self.parts[0].kind
+    /// The worst kind of all parts, so that none of a split or a burst goes unnoticed; of several that are as bad, the
+    /// first. From the best on: [`Kind::Clean`] and [`Kind::Stored`], which one answer never has both;
+    /// [`Kind::Corrected`], since the bytes are right; [`Kind::NoBank`], since nothing that was stored is lost, and
+    /// firmware that looks for the end of memory expects it; [`Kind::Uncorrectable`], since bytes are lost; and
+    /// [`Kind::Unknown`].
+    pub fn worst_kind(&self) -> Kind {
+        let worse = |a: Kind, b: Kind| if b.badness() > a.badness() { b } else { a };
+        self.kinds().fold(self.parts[0].kind, worse)
     }
 
     /// The kind of each part, in the order in which they were performed: four for a burst, two for a split.
@@ -57,35 +77,35 @@ impl Answer {
     }
 }
 
-/// A part has its kind in the low byte and, if it was corrected, its flip bit in the next. All else is 0.
-fn part(number: u32) -> Option<Part> {
-    let [kind, bit, 0, 0] = number.to_le_bytes() else {
-        return None;
-    };
+/// A part has its kind in the low byte and, if it was corrected, its flip bit in the next. What stands above is left to
+/// later versions.
+fn part(number: u32) -> Part {
+    let [kind, bit, ..] = number.to_le_bytes();
     let kind = match (kind, bit) {
         (1, 0) => Kind::Clean,
         (2, 0..=LAST_BIT) => Kind::Corrected(bit),
         (3, 0) => Kind::Uncorrectable,
         (4, 0) => Kind::Stored,
         (5, 0) => Kind::NoBank,
-        _ => return None,
+        _ => Kind::Unknown(number),
     };
-    Some(Part { kind })
+    Part { kind }
 }
 
 /// The answer in the numbers that an accepted call gave: the count, then four parts.
-pub(crate) fn answer([count, numbers @ ..]: [u32; PARTS + 1]) -> Result<Answer, Refusal> {
-    let unknown = Refusal::Unknown(0);
-    let first = part(numbers[0]).ok_or(unknown)?;
-    let count = count as usize;
+pub(crate) fn answer([given, numbers @ ..]: [u32; PARTS + 1]) -> Answer {
+    let count = given as usize;
     if count == 0 || count > PARTS {
-        return Err(unknown);
+        let kind = Kind::Unknown(given);
+        let parts = [Part { kind }; PARTS];
+        return Answer { count: 1, parts };
     }
-    let mut parts = [first; PARTS];
-    for (place, number) in parts.iter_mut().zip(numbers).take(count).skip(1) {
-        *place = part(number).ok_or(unknown)?;
+    // The parts that are not used are all alike, so that equal answers compare as equal.
+    let mut parts = [part(numbers[0]); PARTS];
+    for (place, number) in parts.iter_mut().zip(numbers).take(count) {
+        *place = part(number);
     }
-    Ok(Answer { count, parts })
+    Answer { count, parts }
 }
 
 #[cfg(test)]
@@ -94,7 +114,7 @@ mod tests {
 
     #[test]
     fn each_part_has_its_kind() {
-        let given = answer([4, 1, 2, 3, 4]).expect("an answer");
+        let given = answer([4, 1, 2, 3, 4]);
         let kinds = [
             Kind::Clean,
             Kind::Corrected(0),
@@ -103,20 +123,19 @@ mod tests {
         ];
         assert!(given.kinds().eq(kinds));
         assert_eq!(given.parts().len(), 4);
-        let split = answer([2, 3, 1, 0, 0]).expect("an answer");
+        let split = answer([2, 3, 1, 0, 0]);
         assert!(split.kinds().eq([Kind::Uncorrectable, Kind::Clean]));
         assert_eq!(split.parts().len(), 2);
-        assert_eq!(answer([1, 5, 0, 0, 0]).map(|x| x.kind()), Ok(Kind::NoBank));
-        assert_eq!(answer([1, 5, 0, 0, 0]).map(|x| x.parts().len()), Ok(1));
+        assert!(answer([1, 5, 0, 0, 0]).kinds().eq([Kind::NoBank]));
     }
 
     #[test]
     fn a_corrected_part_has_its_bit() {
         for bit in 0..=71 {
             let given = answer([1, u32::from(bit) << 8 | 2, 0, 0, 0]);
-            assert_eq!(given.map(|x| x.kind()), Ok(Kind::Corrected(bit)));
+            assert!(given.kinds().eq([Kind::Corrected(bit)]));
         }
-        let given = answer([4, 0x4702, 0x0902, 1, 0x4002]).expect("an answer");
+        let given = answer([4, 0x4702, 0x0902, 1, 0x4002]);
         let kinds = [
             Kind::Corrected(71),
             Kind::Corrected(9),
@@ -128,23 +147,49 @@ mod tests {
 
     #[test]
     fn answers_that_are_never_given_are_told_apart() {
-        for numbers in [
-            [0, 1, 0, 0, 0],
-            [5, 1, 1, 1, 1],
-            [1, 0, 0, 0, 0],
-            [1, 6, 0, 0, 0],
-            [2, 1, 0, 0, 0],
-            // Bit 72; a bit of a part that was not corrected; more than a bit.
-            [1, 0x4802, 0, 0, 0],
-            [1, 0x0501, 0, 0, 0],
-            [1, 0x0503, 0, 0, 0],
-            [1, 0x0504, 0, 0, 0],
-            [1, 0x0505, 0, 0, 0],
-            [2, 1, 0x0501, 0, 0],
-            [1, 0x0001_0002, 0, 0, 0],
-            [1, 0x0100_0001, 0, 0, 0],
-        ] {
-            assert_eq!(answer(numbers), Err(Refusal::Unknown(0)));
+        // No kind, or one too many; bit 72; a bit of a part that was not corrected.
+        for number in [0, 6, 0x4802, 0x0501, 0x0503, 0x0504, 0x0505] {
+            let unknown = Kind::Unknown(number);
+            assert!(answer([1, number, 0, 0, 0]).kinds().eq([unknown]));
+            assert!(answer([2, 1, number, 0, 0])
+                .kinds()
+                .eq([Kind::Clean, unknown]));
+            assert_eq!(answer([2, 3, number, 0, 0]).worst_kind(), unknown);
+        }
+        for count in [0, 5, u32::MAX] {
+            let given = answer([count, 1, 1, 1, 1]);
+            assert!(given.kinds().eq([Kind::Unknown(count)]));
+            assert_eq!(given.worst_kind(), Kind::Unknown(count));
+        }
+    }
+
+    #[test]
+    fn what_later_versions_put_above_is_passed_over() {
+        let given = answer([2, 0x00ff_4702, 0x0100_0001, 0, 0]);
+        assert!(given.kinds().eq([Kind::Corrected(71), Kind::Clean]));
+    }
+
+    /// The order as it is documented, asked for kind by kind.
+    fn expected_worst(kinds: &[Kind]) -> Kind {
+        let find = |test: fn(&&Kind) -> bool| kinds.iter().find(test);
+        *find(|kind| matches!(kind, Kind::Uncorrectable))
+            .or_else(|| find(|kind| matches!(kind, Kind::NoBank)))
+            .or_else(|| find(|kind| matches!(kind, Kind::Corrected(_))))
+            .unwrap_or(&kinds[0])
+    }
+
+    #[test]
+    fn the_worst_kind_is_that_of_all_parts() {
+        let numbers = [1, 0x0902, 0x0a02, 3, 4, 5];
+        let kinds = numbers.map(|number| part(number).kind);
+        for choice in 0..6usize.pow(4) {
+            let places = [choice % 6, choice / 6 % 6, choice / 36 % 6, choice / 216];
+            let [a, b, c, d] = places.map(|place| numbers[place]);
+            for count in 1..=PARTS {
+                let given = answer([count as u32, a, b, c, d]);
+                let held = places.map(|place| kinds[place]);
+                assert_eq!(given.worst_kind(), expected_worst(&held[..count]));
+            }
         }
     }
 }

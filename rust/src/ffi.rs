@@ -11,23 +11,35 @@
 //! Each pointer must point to as many bytes as the length behind it says, and nothing that a call may change may overlap
 //! anything else that it is lent.
 
-extern "C" {
-    pub fn mpc106_raw_fresh(registers: &mut [u8; 256]);
-    pub fn mpc106_raw_judge(registers: &[u8; 256]) -> u32;
-    pub fn mpc106_raw_cell_count(registers: &[u8; 256], count: &mut [u32; 1]) -> u32;
-    pub fn mpc106_raw_register_read(registers: &[u8; 256], offset: u32, value: &mut [u8; 1])
-        -> u32;
-    pub fn mpc106_raw_register_write(registers: &mut [u8; 256], offset: u32, value: u8) -> u32;
-    pub fn mpc106_raw_map(registers: &[u8; 256], address: u32, place: &mut [u32; 5]) -> u32;
-    pub fn mpc106_raw_way_back(
+/// Declares functions by a short name. In the archive `mpc106_vN_` stands before it, where N is the major version, here
+/// that of this package; so an archive of another major version is not linked.
+macro_rules! of_the_archive {
+    ($(pub fn $name:ident($($parameter:ident: $kind:ty),* $(,)?) $(-> $result:ty)?;)*) => {
+        extern "C" {
+            $(
+                #[link_name = concat!("mpc106_v", env!("CARGO_PKG_VERSION_MAJOR"), "_", stringify!($name))]
+                pub fn $name($($parameter: $kind),*) $(-> $result)?;
+            )*
+        }
+    };
+}
+
+of_the_archive! {
+    pub fn fresh(registers: &mut [u8; 256]);
+    pub fn judge(registers: &[u8; 256]) -> u32;
+    pub fn cell_count(registers: &[u8; 256], count: &mut [u32; 1]) -> u32;
+    pub fn register_read(registers: &[u8; 256], offset: u32, value: &mut [u8; 1]) -> u32;
+    pub fn register_write(registers: &mut [u8; 256], offset: u32, value: u8) -> u32;
+    pub fn map(registers: &[u8; 256], address: u32, place: &mut [u32; 5]) -> u32;
+    pub fn way_back(
         registers: &[u8; 256],
         bank: u32,
         row: u32,
         column: u32,
         address: &mut [u32; 1],
     ) -> u32;
-    pub fn mpc106_raw_alike(first: &[u8; 256], second: &[u8; 256], alike: &mut [u32; 1]) -> u32;
-    pub fn mpc106_raw_read(
+    pub fn alike(first: &[u8; 256], second: &[u8; 256], alike: &mut [u32; 1]) -> u32;
+    pub fn read(
         registers: &mut [u8; 256],
         cells: *const u8,
         cells_length: usize,
@@ -36,7 +48,7 @@ extern "C" {
         buffer_length: usize,
         answer: &mut [u32; 5],
     ) -> u32;
-    pub fn mpc106_raw_write(
+    pub fn write(
         registers: &mut [u8; 256],
         cells: *mut u8,
         cells_length: usize,
@@ -45,21 +57,21 @@ extern "C" {
         bytes_length: usize,
         answer: &mut [u32; 5],
     ) -> u32;
-    pub fn mpc106_raw_flip(
+    pub fn flip(
         registers: &[u8; 256],
         cells: *mut u8,
         cells_length: usize,
         address: u32,
         bit: u32,
     ) -> u32;
-    pub fn mpc106_raw_scrub(
+    pub fn scrub(
         registers: &mut [u8; 256],
         cells: *mut u8,
         cells_length: usize,
         address: u32,
         answer: &mut [u32; 5],
     ) -> u32;
-    pub fn mpc106_raw_burst_read(
+    pub fn burst_read(
         registers: &mut [u8; 256],
         cells: *const u8,
         cells_length: usize,
@@ -68,7 +80,7 @@ extern "C" {
         buffer_length: usize,
         answer: &mut [u32; 5],
     ) -> u32;
-    pub fn mpc106_raw_burst_write(
+    pub fn burst_write(
         registers: &mut [u8; 256],
         cells: *mut u8,
         cells_length: usize,

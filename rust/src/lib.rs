@@ -3,7 +3,8 @@
 //! A safe wrapper around the C functions that `include/mpc106.h` documents. All state is in what the caller
 //! holds: the register [`Record`] and the cells, nine bytes for each doubleword of 8 bytes. [`Memory`] holds
 //! both; the calls of [`Record`] take the cells as a slice, for those who keep them elsewhere. No call panics
-//! on any input; what it cannot do it refuses, and a refused call leaves everything as it was.
+//! on any input; what it cannot do it refuses, and a refused call leaves everything as it was. An answer that the
+//! library never gives is no refusal: it has [`Kind::Unknown`].
 //!
 //! With fewer cells than [`Record::cell_count`] returns, memory calls to a higher cell get [`Refusal::NotLent`];
 //! bytes behind the last whole cell are ignored. Nine zero bytes are a valid cell that holds zeros.
@@ -20,10 +21,10 @@
 //! record.write_register(offset::MEMORY, 8)?; // memory on
 //!
 //! let mut memory = Memory::new(record)?;
-//! assert_eq!(memory.write(0x10, &[1, 2, 3, 4, 5, 6, 7, 8])?.kind(), Kind::Stored);
+//! assert_eq!(memory.write(0x10, &[1, 2, 3, 4, 5, 6, 7, 8])?.worst_kind(), Kind::Stored);
 //! memory.flip(0x10, 2)?;
 //! let mut buffer = [0; 2];
-//! assert_eq!(memory.read(0x10, &mut buffer)?.kind(), Kind::Corrected(2)); // bit 2 was wrong
+//! assert_eq!(memory.read(0x10, &mut buffer)?.worst_kind(), Kind::Corrected(2)); // bit 2 was wrong
 //! assert_eq!(buffer, [1, 2]);
 //! # Ok::<(), mpc106::Refusal>(())
 //! ```
@@ -34,6 +35,7 @@
 extern crate alloc;
 
 mod answer;
+mod board;
 #[allow(missing_docs)]
 pub mod ffi;
 #[cfg(feature = "alloc")]
@@ -44,6 +46,7 @@ mod record;
 mod refusal;
 
 pub use answer::{Answer, Kind, Part};
+pub use board::LoadError;
 #[cfg(feature = "alloc")]
 pub use memory::Memory;
 pub use record::{Column, Place, Record, Row};

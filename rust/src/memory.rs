@@ -1,5 +1,5 @@
 //! A memory that holds its own cells.
-use crate::{Answer, Record, Refusal, CELL_BYTES};
+use crate::{Answer, LoadError, Record, Refusal, CELL_BYTES};
 use alloc::vec;
 use alloc::vec::Vec;
 
@@ -33,6 +33,41 @@ impl Memory {
     /// Writes 1 to 8 bytes: see [`Record::write`].
     pub fn write(&mut self, address: u32, bytes: &[u8]) -> Result<Answer, Refusal> {
         self.record.write(&mut self.cells, address, bytes)
+    }
+
+    /// Reads 16 bits in the byte order of the board: see [`Record::read_u16`].
+    pub fn read_u16(&mut self, address: u32) -> Result<(u16, Answer), Refusal> {
+        self.record.read_u16(&self.cells, address)
+    }
+
+    /// Reads 32 bits in the byte order of the board: see [`Record::read_u32`].
+    pub fn read_u32(&mut self, address: u32) -> Result<(u32, Answer), Refusal> {
+        self.record.read_u32(&self.cells, address)
+    }
+
+    /// Reads 64 bits in the byte order of the board: see [`Record::read_u64`].
+    pub fn read_u64(&mut self, address: u32) -> Result<(u64, Answer), Refusal> {
+        self.record.read_u64(&self.cells, address)
+    }
+
+    /// Writes 16 bits in the byte order of the board: see [`Record::write_u16`].
+    pub fn write_u16(&mut self, address: u32, value: u16) -> Result<Answer, Refusal> {
+        self.record.write_u16(&mut self.cells, address, value)
+    }
+
+    /// Writes 32 bits in the byte order of the board: see [`Record::write_u32`].
+    pub fn write_u32(&mut self, address: u32, value: u32) -> Result<Answer, Refusal> {
+        self.record.write_u32(&mut self.cells, address, value)
+    }
+
+    /// Writes 64 bits in the byte order of the board: see [`Record::write_u64`].
+    pub fn write_u64(&mut self, address: u32, value: u64) -> Result<Answer, Refusal> {
+        self.record.write_u64(&mut self.cells, address, value)
+    }
+
+    /// Loads an image: see [`Record::load`].
+    pub fn load(&mut self, address: u32, image: &[u8]) -> Result<(), LoadError> {
+        self.record.load(&mut self.cells, address, image)
     }
 
     /// Inverts one bit: see [`Record::flip`].

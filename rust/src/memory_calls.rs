@@ -45,7 +45,7 @@ impl Record {
         let mut numbers = [0; 5];
         // SAFETY: the pointers are to as many bytes as each length says; the borrows are apart.
         accepted(unsafe {
-            ffi::mpc106_raw_read(
+            ffi::read(
                 &mut self.registers,
                 cells.as_ptr(),
                 cells.len(),
@@ -55,7 +55,7 @@ impl Record {
                 &mut numbers,
             )
         })?;
-        answer(numbers)
+        Ok(answer(numbers))
     }
 
     /// Writes 1 to 8 bytes: refusals 5, 6, 7, 9. Eight in one doubleword give
@@ -73,7 +73,7 @@ impl Record {
         let mut numbers = [0; 5];
         // SAFETY: the pointers are to as many bytes as each length says; the borrows are apart.
         accepted(unsafe {
-            ffi::mpc106_raw_write(
+            ffi::write(
                 &mut self.registers,
                 cells.as_mut_ptr(),
                 cells.len(),
@@ -83,15 +83,15 @@ impl Record {
                 &mut numbers,
             )
         })?;
-        answer(numbers)
+        Ok(answer(numbers))
     }
 
-    /// Inverts one of bits 0 to 71 of the cell of the doubleword that holds the address: refusals 5, 8, 10, 9.
-    /// Bit 0 is the top bit of data byte 0, bit 63 the bottom bit of data byte 7, bit 64 + j is bit j of the check byte.
+    /// Inverts one bit of the cell of the doubleword that holds the address: refusals 5, 8, 10, 9. Data bits count from
+    /// the highest bit of byte 0 (0) to the lowest of byte 7 (63); 64 + j is bit j of the check byte.
     pub fn flip(&self, cells: &mut [u8], address: u32, bit: u32) -> Result<(), Refusal> {
         // SAFETY: the pointer is to as many bytes as the length says; the borrows are apart.
         accepted(unsafe {
-            ffi::mpc106_raw_flip(
+            ffi::flip(
                 &self.registers,
                 cells.as_mut_ptr(),
                 cells.len(),
@@ -107,7 +107,7 @@ impl Record {
         let mut numbers = [0; 5];
         // SAFETY: the pointer is to as many bytes as the length says; the borrows are apart.
         accepted(unsafe {
-            ffi::mpc106_raw_scrub(
+            ffi::scrub(
                 &mut self.registers,
                 cells.as_mut_ptr(),
                 cells.len(),
@@ -115,7 +115,7 @@ impl Record {
                 &mut numbers,
             )
         })?;
-        answer(numbers)
+        Ok(answer(numbers))
     }
 
     /// Reads a cache line, the [`LINE_BYTES`](crate::LINE_BYTES) from a multiple of 32 on, in four beats of one
@@ -156,7 +156,7 @@ impl Record {
         let mut numbers = [0; 5];
         // SAFETY: the pointers are to as many bytes as each length says; the borrows are apart.
         accepted(unsafe {
-            ffi::mpc106_raw_burst_read(
+            ffi::burst_read(
                 &mut self.registers,
                 cells.as_ptr(),
                 cells.len(),
@@ -166,7 +166,7 @@ impl Record {
                 &mut numbers,
             )
         })?;
-        answer(numbers)
+        Ok(answer(numbers))
     }
 
     /// Writes a cache line in four beats, with the addresses and the order of [`burst_read`](Record::burst_read):
@@ -181,7 +181,7 @@ impl Record {
         let mut numbers = [0; 5];
         // SAFETY: the pointers are to as many bytes as each length says; the borrows are apart.
         accepted(unsafe {
-            ffi::mpc106_raw_burst_write(
+            ffi::burst_write(
                 &mut self.registers,
                 cells.as_mut_ptr(),
                 cells.len(),
@@ -191,6 +191,6 @@ impl Record {
                 &mut numbers,
             )
         })?;
-        answer(numbers)
+        Ok(answer(numbers))
     }
 }

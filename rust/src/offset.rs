@@ -17,7 +17,7 @@ pub const END_EXTENDED: u32 = 0x98;
 /// Bit n enables bank n.
 pub const BANK_ENABLE: u32 = 0xa0;
 
-/// Each [`Kind::Corrected`](crate::Kind::Corrected) raises it by one, stopping at 255.
+/// Each [`Kind::Corrected`](crate::Kind::Corrected) adds one to it, up to 255.
 pub const SINGLE_BIT_COUNTER: u32 = 0xb8;
 
 /// The value of the counter at which bit 2 of [`ERROR_DETECTION_1`] is set.
@@ -27,13 +27,13 @@ pub const SINGLE_BIT_TRIGGER: u32 = 0xb9;
 pub const ERROR_ENABLE_1: u32 = 0xc0;
 
 /// Bit 5: a part of a read, write, scrub or burst found no bank. Bit 2: the counter rose and was then equal to the
-/// trigger. Writing a 1 clears that bit.
+/// trigger. A bit that is 1 in what is written is cleared.
 pub const ERROR_DETECTION_1: u32 = 0xc1;
 
 /// Bit 3 lets the same bit of [`ERROR_DETECTION_2`] be set; its other bits do nothing.
 pub const ERROR_ENABLE_2: u32 = 0xc4;
 
-/// Bit 3: a doubleword was uncorrectable. Writing a 1 clears that bit.
+/// Bit 3: a doubleword was uncorrectable. It is cleared in the same way.
 pub const ERROR_DETECTION_2: u32 = 0xc5;
 
 /// The lowest of four bytes, read only: the address, as it was given, of the last call that set a bit of
@@ -41,7 +41,7 @@ pub const ERROR_DETECTION_2: u32 = 0xc5;
 /// and each beat of a burst counts as a call here, with its own address.
 pub const ERROR_ADDRESS: u32 = 0xc8;
 
-/// Two bits for each bank, banks 0 to 3 from the low end; those of banks 4 to 7 are at the next offset. Codes 0,
+/// Bits 2n and 2n + 1 are the row code of bank n, with n from 0 to 3; those of banks 4 to 7 are at the next offset. Codes 0,
 /// 1, 2 mean 9, 10, 11 row bits. With code 3 a bank has 12 row bits if its length is at most 128 megabytes, and 13
 /// otherwise. The longest bank of code 0, 1, 2, 3 has 2, 8, 32, 256 megabytes.
 pub const ROW_CODES: u32 = 0xf0;

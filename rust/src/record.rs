@@ -1,5 +1,6 @@
 //! The register record, and the calls that need no cells.
 use crate::ffi;
+use crate::offset;
 use crate::refusal::{accepted, Refusal};
 
 /// A row number.
@@ -24,8 +25,8 @@ pub struct Place {
 }
 
 /// The register record: 256 bytes, one for each offset. It may hold any bytes, since each call judges its record
-/// again. To keep it as a save state, store the bytes of `registers`; to load it, put them in the `registers` of a
-/// fresh record.
+/// again. To keep it as a save state, store the bytes of `registers`, with the version of this crate: later versions may
+/// add fields. [`Record::from_registers`] loads the 256 bytes of this or an earlier version.
 #[derive(Clone, Copy, Debug, PartialEq, Eq)]
 #[non_exhaustive]
 pub struct Record {
@@ -44,15 +45,23 @@ impl Record {
     pub fn fresh() -> Self {
         let mut registers = [0xff; 256];
         // SAFETY: the array is the call's alone.
-        unsafe { ffi::mpc106_raw_fresh(&mut registers) };
+        unsafe { ffi::fresh(&mut registers) };
         Record { registers }
     }
 
-    /// What switching the record on would return: refusal 11; then 12 or 13, bank by bank upward; then 14, of the
-    /// lowest such bank.
+    /// A fresh record with these registers, those of a save state: whatever later versions add to a record is as
+    /// [`Record::fresh`] leaves it. It is not judged; if it could not be switched on, calls that use it get refusal 5.
+    pub fn from_registers(registers: [u8; 256]) -> Self {
+        let mut record = Record::fresh();
+        record.registers = registers;
+        record
+    }
+
+    /// What switching the record on would return: refusal 11; then, with the banks in ascending order, 12 or
+    /// 13; last 14, with the lowest bank that has it.
     pub fn judge(&self) -> Result<(), Refusal> {
         // SAFETY: nothing is changed.
-        accepted(unsafe { ffi::mpc106_raw_judge(&self.registers) })
+        accepted(unsafe { ffi::judge(&self.registers) })
     }
 
     /// How many cells of [`CELL_BYTES`](crate::CELL_BYTES) the memory has, at most 251,658,240 (15 · 2^24), which have
@@ -60,7 +69,7 @@ impl Record {
     pub fn cell_count(&self) -> Result<u32, Refusal> {
         let mut count = [0];
         // SAFETY: the number is the call's alone.
-        accepted(unsafe { ffi::mpc106_raw_cell_count(&self.registers, &mut count) })?;
+        accepted(unsafe { ffi::cell_count(&self.registers, &mut count) })?;
         Ok(count[0])
     }
 
@@ -68,7 +77,7 @@ impl Record {
     pub fn read_register(&self, offset: u32) -> Result<u8, Refusal> {
         let mut value = [0];
         // SAFETY: the byte is the call's alone.
-        accepted(unsafe { ffi::mpc106_raw_register_read(&self.registers, offset, &mut value) })?;
+        accepted(unsafe { ffi::register_read(&self.registers, offset, &mut value) })?;
         Ok(value[0])
     }
 
@@ -76,14 +85,27 @@ impl Record {
     /// Writing 8 to F2 while memory is on checks nothing, and leaves 08 there.
     pub fn write_register(&mut self, offset: u32, value: u8) -> Result<(), Refusal> {
         // SAFETY: the record is the call's alone.
-        accepted(unsafe { ffi::mpc106_raw_register_write(&mut self.registers, offset, value) })
+        accepted(unsafe { ffi::register_write(&mut self.registers, offset, value) })
+    }
+
+    /// The error address, C8 to CB, as one number.
+    pub fn error_address(&self) -> u32 {
+        let byte = |place| {
+            let mut value = [0];
+            // SAFETY: the byte is the call's alone. It is not refused, since each of the four offsets has a register.
+            unsafe {
+                ffi::register_read(&self.registers, offset::ERROR_ADDRESS + place, &mut value)
+            };
+            value[0]
+        };
+        u32::from_le_bytes([byte(0), byte(1), byte(2), byte(3)])
     }
 
     /// Where an address is kept, or `None` if no enabled bank holds it, which is not reported: refusal 5.
     pub fn map(&self, address: u32) -> Result<Option<Place>, Refusal> {
         let mut place = [0; 5];
         // SAFETY: the numbers are the call's alone.
-        accepted(unsafe { ffi::mpc106_raw_map(&self.registers, address, &mut place) })?;
+        accepted(unsafe { ffi::map(&self.registers, address, &mut place) })?;
         let [found, bank, row, column, cell] = place;
         Ok((found == 1).then_some(Place {
             bank,
@@ -97,17 +119,15 @@ impl Record {
     pub fn way_back(&self, bank: u32, row: Row, column: Column) -> Result<u32, Refusal> {
         let mut address = [0];
         // SAFETY: the number is the call's alone.
-        accepted(unsafe {
-            ffi::mpc106_raw_way_back(&self.registers, bank, row.0, column.0, &mut address)
-        })?;
+        accepted(unsafe { ffi::way_back(&self.registers, bank, row.0, column.0, &mut address) })?;
         Ok(address[0])
     }
 
-    /// Whether every address has the same bank, row and column, or no bank, in both records: refusal 5.
+    /// Whether both records map all 2^32 addresses in the same way (bank, row and column, or no bank): refusal 5.
     pub fn is_alike(&self, other: &Record) -> Result<bool, Refusal> {
         let mut alike = [0];
         // SAFETY: the number is the call's alone.
-        accepted(unsafe { ffi::mpc106_raw_alike(&self.registers, &other.registers, &mut alike) })?;
+        accepted(unsafe { ffi::alike(&self.registers, &other.registers, &mut alike) })?;
         Ok(alike[0] == 1)
     }
 }

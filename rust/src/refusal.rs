@@ -2,8 +2,9 @@
 use core::error::Error;
 use core::fmt;
 
-/// Why a call was refused. It left everything as it was. If two apply, the lower number is returned, except that
-/// 10, 19 and 20 come before 9, and that switching on has the order given at [`Record::judge`](crate::Record::judge).
+/// Why a call was refused. It left everything as it was; only of [`Refusal::Unknown`] this is not known. If two apply,
+/// the lower number is returned, except that 10, 19 and 20 come before 9, and that switching on has the order given at
+/// [`Record::judge`](crate::Record::judge).
 #[derive(Clone, Copy, Debug, PartialEq, Eq, Hash)]
 #[non_exhaustive]
 pub enum Refusal {
@@ -11,7 +12,7 @@ pub enum Refusal {
     UnlistedOffset,
     /// 2: a write at C8 to CB.
     ReadOnly,
-    /// 3: an extended byte above 3, or F2 neither 0 nor 8.
+    /// 3: a value that the register does not take; extended bytes take 0 to 3, F2 takes 0 or 8.
     ValueOutOfRange,
     /// 4: a write at 80 to A0, F0 or F1 while memory is on.
     LockedWhileOn,
@@ -45,7 +46,8 @@ pub enum Refusal {
     Misaligned,
     /// 20: a burst of more or fewer than 32 bytes.
     NotCacheLine,
-    /// A number that the proved library never returns: another library was linked. Holds the number.
+    /// A result that no version up to this one returns, so that another library was linked. Holds the number. Nothing is
+    /// promised of such a call, not that it left anything as it was.
     Unknown(u32),
 }
 
@@ -110,7 +112,7 @@ impl Refusal {
             Refusal::NoAddress => "no address has this bank, row and column",
             Refusal::Misaligned => "the address of the burst is not a multiple of 8",
             Refusal::NotCacheLine => "the number of bytes of the burst is not 32",
-            Refusal::Unknown(_) => "a refusal that this crate doesn't know",
+            Refusal::Unknown(_) => "a result that this crate doesn't know",
         }
     }
 }

@@ -1,4 +1,4 @@
-//! The C header and this wrapper agree on the version, the offsets, the lengths, and the refusals with their texts.
+//! The C header and this wrapper agree on the offsets, the lengths, and the refusals with their texts.
 use mpc106::{offset, Refusal, CELL_BYTES, LINE_BYTES};
 
 const HEADER: &str = include_str!("../../include/mpc106.h");
@@ -80,11 +80,7 @@ fn offsets_are_the_same() {
 }
 
 #[test]
-fn version_and_lengths_are_the_same() {
-    let parts = ["MAJOR", "MINOR", "PATCH"];
-    for (name, part) in parts.iter().zip(env!("CARGO_PKG_VERSION").split('.')) {
-        says(&format!("#define MPC106_VERSION_{name} {part}\n"));
-    }
+fn lengths_are_the_same() {
     says(&format!("#define MPC106_CELL_BYTES {CELL_BYTES}\n"));
     says(&format!("#define MPC106_LINE_BYTES {LINE_BYTES}\n"));
 }

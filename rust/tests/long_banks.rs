@@ -112,7 +112,7 @@ fn the_last_cell_must_be_lent() {
     ] {
         let mut memory = Memory::with_cells(record, vec![0; length]);
         let answer = memory.write(0x0fff_fff8, &[7; 8]);
-        assert_eq!(answer.map(|answer| answer.kind()), expected);
+        assert_eq!(answer.map(|answer| answer.worst_kind()), expected);
     }
 }
 
@@ -129,7 +129,7 @@ fn a_memory_of_two_long_banks_reads_what_was_written() {
     for address in CORNERS {
         let answer = memory.read(address, &mut buffer).expect("accepted");
         assert_eq!(
-            (answer.kind(), buffer),
+            (answer.worst_kind(), buffer),
             (Kind::Corrected(3), address.to_le_bytes())
         );
     }

@@ -89,8 +89,8 @@ fn a_write_merges_into_both() {
         merged[place..place + count].copy_from_slice(&given[..count]);
         assert_eq!(held(&mut memory), merged);
         assert_eq!(memory.record, record);
-        assert_eq!(memory.scrub(0x40).map(|x| x.kind()), Ok(Kind::Clean));
-        assert_eq!(memory.scrub(0x48).map(|x| x.kind()), Ok(Kind::Clean));
+        assert_eq!(memory.scrub(0x40).map(|x| x.worst_kind()), Ok(Kind::Clean));
+        assert_eq!(memory.scrub(0x48).map(|x| x.worst_kind()), Ok(Kind::Clean));
     }
 }
 

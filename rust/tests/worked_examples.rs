@@ -35,7 +35,7 @@ fn one_bank(row_code: u8, last: u8) -> Record {
 fn kind(answer: Result<Answer, Refusal>) -> Result<Kind, Refusal> {
     answer.map(|answer| {
         assert_eq!(answer.parts().len(), 1);
-        answer.kind()
+        answer.worst_kind()
     })
 }
 

@@ -2,12 +2,15 @@
 
 A prototype is a list of (name, type) for the parameters, then the type returned. Types are Rust's for numbers, `*const T` and `*mut T` for
 pointers, and `*const [T; N]` and `*mut [T; N]` for pointers to arrays. A lent slice is a pointer and, behind it, its length.
+
+A name is the one in the archive. C writes MPC106_RAW(read) for it, and Rust `pub fn read` among the functions `of_the_archive!`; both put a prefix with
+the major version before it, which is passed to the reader here.
 """
 import re
 
 C_NUMBERS = {"uint8_t": "u8", "uint16_t": "u16", "uint32_t": "u32", "uint64_t": "u64", "size_t": "usize"}
 NUMBERS = set(C_NUMBERS.values())
-PREFIX = "mpc106_"
+EXPORTED = r"mpc106_v\d+_\w+"
 
 
 class Unreadable(Exception):
@@ -65,11 +68,12 @@ def of_rattle(text):
     return found
 
 
-def of_c(text):
+def of_c(text, prefix):
     """What a C file declares or defines; function calls are left out, since no type stands before them."""
     found = {}
-    pattern = rf"\b(\w+)\s+({PREFIX}raw_\w+)\s*\(([^)]*)\)\s*[;{{]"
-    for returned, name, parameters in re.findall(pattern, without_comments(text)):
+    text = re.sub(r"\bMPC106_RAW\((\w+)\)", rf"{prefix}\1", without_comments(text))
+    pattern = rf"\b(\w+)\s+({EXPORTED})\s*\(([^)]*)\)\s*[;{{]"
+    for returned, name, parameters in re.findall(pattern, text):
         if returned == "return":
             continue
         listed = []
@@ -90,12 +94,16 @@ def of_c(text):
     return found
 
 
-def of_rust(text):
-    """Which of our functions the `extern` blocks of a Rust file declare, and how."""
+def of_rust(text, prefix):
+    """Which of our functions a Rust file declares, and how, in `extern` blocks or as `of_the_archive!`."""
     found = {}
-    for block in re.findall(r'extern\s+"C"\s*\{(.*?)\}', without_comments(text), flags=re.S):
-        for name, parameters, returned in re.findall(r"fn\s+(\w+)\s*\(([^)]*)\)\s*(?:->\s*(\w+))?\s*;", block):
-            if not name.startswith(PREFIX):
+    text = without_comments(text)
+    blocks = [("", block) for block in re.findall(r'extern\s+"C"\s*\{(.*?)\}', text, flags=re.S)]
+    blocks += [(prefix, block) for block in re.findall(r"of_the_archive!\s*\{(.*?)\}", text, flags=re.S)]
+    for before, block in blocks:
+        for short, parameters, returned in re.findall(r"fn\s+(\w+)\s*\(([^)]*)\)\s*(?:->\s*(\w+))?\s*;", block):
+            name = before + short
+            if not re.fullmatch(EXPORTED, name):
                 continue
             listed = []
             for parameter, kind in map(named, parted(parameters)):

@@ -7,48 +7,46 @@
 
 static void record_calls(void)
 {
-    SAME(mpc106_judge(&a.record), mpc106_raw_judge(b.record.registers));
-    SAME(mpc106_cell_count(&a.record, &a.number), mpc106_raw_cell_count(b.record.registers, &b.number));
+    SAME(mpc106_judge(&a.record), MPC106_RAW(judge)(b.record.registers));
+    SAME(mpc106_cell_count(&a.record, &a.number), MPC106_RAW(cell_count)(b.record.registers, &b.number));
     for (uint32_t offset = 0; offset < 600; offset++)
-        SAME(mpc106_register_read(&a.record, offset, &a.value), mpc106_raw_register_read(b.record.registers, offset, &b.value));
-    SAME(mpc106_register_write(&a.record, 0xb9, 1), mpc106_raw_register_write(b.record.registers, 0xb9, 1));
+        SAME(mpc106_register_read(&a.record, offset, &a.value), MPC106_RAW(register_read)(b.record.registers, offset, &b.value));
+    SAME(mpc106_register_write(&a.record, 0xb9, 1), MPC106_RAW(register_write)(b.record.registers, 0xb9, 1));
     for (uint32_t address = 0; address < 0x600000; address += 0x7fff8)
-        SAME(mpc106_map(&a.record, address, &a.place), mpc106_raw_map(b.record.registers, address, (uint32_t *)&b.place));
+        SAME(mpc106_map(&a.record, address, &a.place), MPC106_RAW(map)(b.record.registers, address, (uint32_t *)&b.place));
     for (uint32_t bank = 0; bank < 9; bank++)
         SAME(mpc106_way_back(&a.record, bank, 512 - bank, 3, &a.number),
-             mpc106_raw_way_back(b.record.registers, bank, 512 - bank, 3, &b.number));
-    SAME(mpc106_alike(&a.record, &b.record, &a.number), mpc106_raw_alike(a.record.registers, b.record.registers, &b.number));
+             MPC106_RAW(way_back)(b.record.registers, bank, 512 - bank, 3, &b.number));
+    SAME(mpc106_alike(&a.record, &b.record, &a.number), MPC106_RAW(alike)(a.record.registers, b.record.registers, &b.number));
 }
 
 static void memory_calls(void)
 {
-    mpc106_memory memory = {&a.record, a.cells, sizeof a.cells};
     const uint8_t bytes[8] = {1, 2, 3, 4, 5, 6, 7, 8};
     for (uint32_t i = 0; i < 40; i++) {
         uint32_t address = 31 * i, count = i % 10, bit = 2 * i;
         SAME(mpc106_write(&memory, address, bytes, count, &a.answer),
-             mpc106_raw_write(b.record.registers, b.cells, sizeof b.cells, address, bytes, count, (uint32_t *)&b.answer));
-        SAME(mpc106_flip(&memory, address, bit), mpc106_raw_flip(b.record.registers, b.cells, sizeof b.cells, address, bit));
+             MPC106_RAW(write)(b.record.registers, b.cells, sizeof b.cells, address, bytes, count, (uint32_t *)&b.answer));
+        SAME(mpc106_flip(&memory, address, bit), MPC106_RAW(flip)(b.record.registers, b.cells, sizeof b.cells, address, bit));
         SAME(mpc106_read(&memory, address, a.buffer, count % 9, &a.answer),
-             mpc106_raw_read(b.record.registers, b.cells, sizeof b.cells, address, b.buffer, count % 9, (uint32_t *)&b.answer));
+             MPC106_RAW(read)(b.record.registers, b.cells, sizeof b.cells, address, b.buffer, count % 9, (uint32_t *)&b.answer));
         SAME(mpc106_scrub(&memory, address, &a.answer),
-             mpc106_raw_scrub(b.record.registers, b.cells, sizeof b.cells, address, (uint32_t *)&b.answer));
+             MPC106_RAW(scrub)(b.record.registers, b.cells, sizeof b.cells, address, (uint32_t *)&b.answer));
     }
 }
 
 static void burst_calls(void)
 {
-    mpc106_memory memory = {&a.record, a.cells, sizeof a.cells};
     uint8_t bytes[40];
     for (uint32_t i = 0; i < 40; i++)
         bytes[i] = (uint8_t)(7 * i);
     for (uint32_t i = 0; i < 120; i++) {
         uint32_t address = i % 5 == 0 ? 7 * i : 8 * i, count = i % 7 == 0 ? i % 40 : MPC106_LINE_BYTES, bit = i % 72;
         SAME(mpc106_burst_write(&memory, address, bytes, count, &a.answer),
-             mpc106_raw_burst_write(b.record.registers, b.cells, sizeof b.cells, address, bytes, count, (uint32_t *)&b.answer));
-        SAME(mpc106_flip(&memory, address, bit), mpc106_raw_flip(b.record.registers, b.cells, sizeof b.cells, address, bit));
+             MPC106_RAW(burst_write)(b.record.registers, b.cells, sizeof b.cells, address, bytes, count, (uint32_t *)&b.answer));
+        SAME(mpc106_flip(&memory, address, bit), MPC106_RAW(flip)(b.record.registers, b.cells, sizeof b.cells, address, bit));
         SAME(mpc106_burst_read(&memory, address, a.buffer, count, &a.answer),
-             mpc106_raw_burst_read(b.record.registers, b.cells, sizeof b.cells, address, b.buffer, count, (uint32_t *)&b.answer));
+             MPC106_RAW(burst_read)(b.record.registers, b.cells, sizeof b.cells, address, b.buffer, count, (uint32_t *)&b.answer));
     }
 }
 
@@ -76,7 +74,6 @@ static int has_kinds(const mpc106_answer *answer, uint32_t k0, uint32_t k1, uint
 /* From each doubleword of the line at 20 a burst write stores that line, and nothing else; a burst read gives its bytes again. */
 static void bursts_wrap(void)
 {
-    mpc106_memory memory = {&a.record, a.cells, sizeof a.cells};
     for (uint32_t first = 0; first < 4; first++) {
         uint8_t bytes[MPC106_LINE_BYTES];
         both_start(1);
@@ -97,7 +94,6 @@ static void bursts_report(void)
 {
     static const uint8_t expected[MPC106_LINE_BYTES] = {0xff, 0, 0, 0, 0, 0, 0, 0, 0, 0, 0, 0, 0, 0, 0, 0x01, 0x3f, 0xff, 0xff, 0xff, 0xff, 0xff,
                                                         0xff, 0xff, 0x80, 0, 0, 0, 0, 0, 0, 0};
-    mpc106_memory memory = {&a.record, a.cells, sizeof a.cells};
     both_start(1);
     memcpy(a.cells + 9 * 4, line, sizeof line);
     CHECK(mpc106_register_write(&a.record, MPC106_SINGLE_BIT_TRIGGER, 2) == 0);
@@ -111,30 +107,31 @@ static void bursts_report(void)
     CHECK(memcmp(a.cells, b.cells, sizeof a.cells) == 0);
     CHECK(a.record.registers[MPC106_SINGLE_BIT_COUNTER] == 2);
     CHECK(a.record.registers[MPC106_ERROR_DETECTION_1] == 4 && a.record.registers[MPC106_ERROR_DETECTION_2] == 8);
-    CHECK(error_address(&a.record) == 0x38);
+    CHECK(mpc106_error_address(&a.record) == 0x38);
 }
 
 /* The last line of the address space has no bank: nothing need be lent for it, and the first beat is reported. */
 static void bursts_without_bank(void)
 {
-    mpc106_memory memory = {&a.record, a.cells, 0};
     both_start(1);
+    memory = mpc106_lend(&a.record, a.cells, 0);
     CHECK(mpc106_burst_read(&memory, 0xfffffff0u, a.buffer, MPC106_LINE_BYTES, &a.answer) == 0);
     CHECK(has_kinds(&a.answer, MPC106_NO_BANK, MPC106_NO_BANK, MPC106_NO_BANK, MPC106_NO_BANK));
     for (uint32_t i = 0; i < MPC106_LINE_BYTES; i++)
         CHECK(a.buffer[i] == 0xff);
-    CHECK(a.record.registers[MPC106_ERROR_DETECTION_1] == 0x20 && error_address(&a.record) == 0xfffffff0u);
+    CHECK(a.record.registers[MPC106_ERROR_DETECTION_1] == 0x20 && mpc106_error_address(&a.record) == 0xfffffff0u);
     both_start(1);
+    memory = mpc106_lend(&a.record, a.cells, 0);
     CHECK(mpc106_burst_write(&memory, 0xffffffe8u, a.buffer, MPC106_LINE_BYTES, &a.answer) == 0);
     CHECK(has_kinds(&a.answer, MPC106_NO_BANK, MPC106_NO_BANK, MPC106_NO_BANK, MPC106_NO_BANK));
-    CHECK(a.record.registers[MPC106_ERROR_DETECTION_1] == 0x20 && error_address(&a.record) == 0xffffffe8u);
+    CHECK(a.record.registers[MPC106_ERROR_DETECTION_1] == 0x20 && mpc106_error_address(&a.record) == 0xffffffe8u);
 }
 
 /* A burst read and a burst write are refused with this number, and leave everything as it was. */
 static void check_refused(uint32_t refusal, size_t lent, uint32_t address, size_t count)
 {
     static const uint8_t bytes[sizeof a.buffer] = {1, 2, 3};
-    mpc106_memory memory = {&a.record, a.cells, lent};
+    memory = mpc106_lend(&a.record, a.cells, lent);
     memcpy(&b, &a, sizeof b);
     SAME(mpc106_burst_read(&memory, address, a.buffer, count, &a.answer), refusal);
     SAME(mpc106_burst_write(&memory, address, bytes, count, &a.answer), refusal);
@@ -163,7 +160,7 @@ static void structs_have_no_gaps(void)
     CHECK(sizeof(mpc106_answer) == 20 && offsetof(mpc106_answer, part) == 4);
     CHECK(sizeof(mpc106_place) == 20 && offsetof(mpc106_place, bank) == 4 && offsetof(mpc106_place, row) == 8);
     CHECK(offsetof(mpc106_place, column) == 12 && offsetof(mpc106_place, cell) == 16);
-    CHECK(MPC106_VERSION >= 30000);
+    CHECK(MPC106_VERSION >= 40000);
 }
 
 static void refusals_have_sentences(void)

@@ -9,8 +9,6 @@
 /* What each doubleword of the line at 20 holds. */
 static const uint8_t held[8] = {0xa5, 0x3c, 0x0f, 0x69, 0xc3, 0x5a, 0x96, 0xf1};
 
-static mpc106_memory memory = {&a.record, a.cells, sizeof a.cells};
-
 static void start_line(void)
 {
     both_start(1);

@@ -64,13 +64,13 @@ static void last_cell(void)
 {
     size_t all = (size_t)MPC106_CELL_BYTES << 25;
     uint8_t *cells = (uint8_t *)calloc(all, 1);
-    mpc106_memory memory = {&a.record, cells, all - 1};
     CHECK(cells != NULL);
+    memory = mpc106_lend(&a.record, cells, all - 1);
     mpc106_fresh(&a.record);
     set_bank(0, 0, 255);
     CHECK(switched_on() == 0);
     CHECK(mpc106_read(&memory, 0x0ffffff8, a.buffer, 8, &a.answer) == MPC106_NOT_LENT);
-    memory.cells_length = all;
+    memory = mpc106_lend(&a.record, cells, all);
     CHECK(mpc106_flip(&memory, 0x0ffffff8, 71) == 0 && cells[all - 1] == 0x80);
     CHECK(mpc106_read(&memory, 0x0ffffff8, a.buffer, 8, &a.answer) == 0);
     CHECK(MPC106_KIND(a.answer.part[0]) == MPC106_CORRECTED && MPC106_FLIP_BIT(a.answer.part[0]) == 71);

@@ -25,6 +25,9 @@ typedef struct {
 
 static side a, b;
 
+/* What is lent of side a: all of it, after both_start. */
+static mpc106_memory memory;
+
 #define CHECK(condition)                                                                                               \
     do {                                                                                                               \
         if (!(condition)) {                                                                                            \
@@ -51,12 +54,7 @@ static inline void both_start(int on)
     if (on)
         CHECK(mpc106_register_write(&a.record, MPC106_MEMORY, 8) == 0);
     memcpy(&b, &a, sizeof b);
-}
-
-static inline uint32_t error_address(const mpc106_record *record)
-{
-    const uint8_t *bytes = record->registers + MPC106_ERROR_ADDRESS;
-    return bytes[0] | (uint32_t)bytes[1] << 8 | (uint32_t)bytes[2] << 16 | (uint32_t)bytes[3] << 24;
+    memory = mpc106_lend(&a.record, a.cells, sizeof a.cells);
 }
 
 #endif

@@ -10,8 +10,6 @@ static const uint8_t held[16] = {1, 2, 3, 4, 5, 6, 7, 8, 9, 10, 11, 12, 13, 14, 
 /* What a write gives them. */
 static const uint8_t given[8] = {0xa0, 0xa1, 0xa2, 0xa3, 0xa4, 0xa5, 0xa6, 0xa7};
 
-static mpc106_memory memory = {&a.record, a.cells, sizeof a.cells};
-
 /* All errors are reported, of corrections the second. */
 static void start_holding(void)
 {
@@ -36,11 +34,11 @@ static void check_clean(uint32_t place, uint32_t count)
     uint8_t merged[16], found[16];
     start_holding();
     SAME(mpc106_read(&memory, 0x20 + place, a.buffer, count, &a.answer),
-         mpc106_raw_read(b.record.registers, b.cells, sizeof b.cells, 0x20 + place, b.buffer, count, (uint32_t *)&b.answer));
+         MPC106_RAW(read)(b.record.registers, b.cells, sizeof b.cells, 0x20 + place, b.buffer, count, (uint32_t *)&b.answer));
     CHECK(has_parts(&a.answer, MPC106_CLEAN, MPC106_CLEAN));
     CHECK(memcmp(a.buffer, held + place, count) == 0 && a.buffer[count] == 0xa6);
     SAME(mpc106_write(&memory, 0x20 + place, given, count, &a.answer),
-         mpc106_raw_write(b.record.registers, b.cells, sizeof b.cells, 0x20 + place, given, count, (uint32_t *)&b.answer));
+         MPC106_RAW(write)(b.record.registers, b.cells, sizeof b.cells, 0x20 + place, given, count, (uint32_t *)&b.answer));
     CHECK(has_parts(&a.answer, MPC106_CLEAN, MPC106_CLEAN));
     memcpy(merged, held, sizeof merged);
     memcpy(merged + place, given, count);
@@ -68,7 +66,7 @@ static void first_is_uncorrectable(void)
     CHECK(mpc106_read(&memory, 0x26, a.buffer, 4, &a.answer) == 0);
     CHECK(has_parts(&a.answer, MPC106_UNCORRECTABLE, MPC106_CLEAN));
     CHECK(memcmp(a.buffer, as_stored, 4) == 0);
-    CHECK(a.record.registers[MPC106_ERROR_DETECTION_2] == 8 && error_address(&a.record) == 0x26);
+    CHECK(a.record.registers[MPC106_ERROR_DETECTION_2] == 8 && mpc106_error_address(&a.record) == 0x26);
     CHECK(mpc106_write(&memory, 0x26, given, 4, &a.answer) == 0);
     CHECK(has_parts(&a.answer, MPC106_UNCORRECTABLE, MPC106_CLEAN));
     CHECK(memcmp(a.cells + 9 * 4, b.cells + 9 * 4, 9) == 0);
@@ -85,7 +83,7 @@ static void both_are_corrected(void)
     CHECK(has_parts(&a.answer, MPC106_CORRECTED, MPC106_CORRECTED));
     CHECK(memcmp(a.buffer, held + 7, 8) == 0 && memcmp(a.cells, b.cells, sizeof a.cells) == 0);
     CHECK(a.record.registers[MPC106_SINGLE_BIT_COUNTER] == 2);
-    CHECK(a.record.registers[MPC106_ERROR_DETECTION_1] == 4 && error_address(&a.record) == 0x28);
+    CHECK(a.record.registers[MPC106_ERROR_DETECTION_1] == 4 && mpc106_error_address(&a.record) == 0x28);
     CHECK(mpc106_write(&memory, 0x27, given, 8, &a.answer) == 0);
     CHECK(has_parts(&a.answer, MPC106_CORRECTED, MPC106_CORRECTED));
     CHECK(a.record.registers[MPC106_SINGLE_BIT_COUNTER] == 4);
@@ -98,7 +96,7 @@ static void parts_have_other_banks(void)
     uint32_t cells;
     both_start(1);
     CHECK(mpc106_cell_count(&a.record, &cells) == 0);
-    mpc106_memory whole = {&a.record, (uint8_t *)calloc(cells, MPC106_CELL_BYTES), (size_t)cells * MPC106_CELL_BYTES};
+    mpc106_memory whole = mpc106_lend(&a.record, (uint8_t *)calloc(cells, MPC106_CELL_BYTES), (size_t)cells * MPC106_CELL_BYTES);
     CHECK(whole.cells != NULL);
     CHECK(mpc106_write(&whole, 0x1ffffb, given, 8, &a.answer) == 0);
     CHECK(has_parts(&a.answer, MPC106_CLEAN, MPC106_CLEAN));
@@ -109,7 +107,7 @@ static void parts_have_other_banks(void)
     CHECK(mpc106_read(&whole, 0x4ffffb, a.buffer, 8, &a.answer) == 0);
     CHECK(has_parts(&a.answer, MPC106_CLEAN, MPC106_NO_BANK));
     CHECK(memcmp(a.buffer, at_the_end, 8) == 0);
-    CHECK(a.record.registers[MPC106_ERROR_DETECTION_1] == 0x20 && error_address(&a.record) == 0x500000);
+    CHECK(a.record.registers[MPC106_ERROR_DETECTION_1] == 0x20 && mpc106_error_address(&a.record) == 0x500000);
     free(whole.cells);
 }
 
@@ -124,7 +122,7 @@ static void first_has_no_bank(void)
     CHECK(mpc106_read(&memory, 0xfffff, a.buffer, 4, &a.answer) == 0);
     CHECK(has_parts(&a.answer, MPC106_NO_BANK, MPC106_CLEAN));
     CHECK(memcmp(a.buffer, at_the_start, 4) == 0);
-    CHECK(a.record.registers[MPC106_ERROR_DETECTION_1] == 0x20 && error_address(&a.record) == 0xfffff);
+    CHECK(a.record.registers[MPC106_ERROR_DETECTION_1] == 0x20 && mpc106_error_address(&a.record) == 0xfffff);
     CHECK(mpc106_write(&memory, 0xfffff, given, 4, &a.answer) == 0);
     CHECK(has_parts(&a.answer, MPC106_NO_BANK, MPC106_CLEAN));
     CHECK(memcmp(a.cells, given + 1, 3) == 0);
@@ -135,11 +133,11 @@ static void both_have_no_bank(void)
 {
     static const uint8_t ones[4] = {0xff, 0xff, 0xff, 0xff};
     both_start(1);
-    mpc106_memory none = {&a.record, a.cells, 0};
+    mpc106_memory none = mpc106_lend(&a.record, a.cells, 0);
     CHECK(mpc106_read(&none, 0x600006, a.buffer, 4, &a.answer) == 0);
     CHECK(has_parts(&a.answer, MPC106_NO_BANK, MPC106_NO_BANK));
     CHECK(memcmp(a.buffer, ones, 4) == 0 && a.buffer[4] == 0xa6);
-    CHECK(a.record.registers[MPC106_ERROR_DETECTION_1] == 0x20 && error_address(&a.record) == 0x600006);
+    CHECK(a.record.registers[MPC106_ERROR_DETECTION_1] == 0x20 && mpc106_error_address(&a.record) == 0x600006);
     CHECK(mpc106_write(&none, 0x600006, given, 4, &a.answer) == 0);
     CHECK(has_parts(&a.answer, MPC106_NO_BANK, MPC106_NO_BANK));
     CHECK(memcmp(a.cells, b.cells, sizeof a.cells) == 0);
@@ -158,7 +156,7 @@ static void last_address_is_accepted(void)
 /* A read and a write are refused with this number, and leave everything as it was. */
 static void check_refused(uint32_t refusal, size_t lent, uint32_t address, size_t count)
 {
-    mpc106_memory less = {&a.record, a.cells, lent};
+    mpc106_memory less = mpc106_lend(&a.record, a.cells, lent);
     const uint8_t bytes[9] = {1, 2, 3, 4, 5, 6, 7, 8, 9};
     SAME(mpc106_read(&less, address, a.buffer, count, &a.answer), refusal);
     SAME(mpc106_write(&less, address, bytes, count, &a.answer), refusal);

@@ -1,4 +1,4 @@
-"""The rules of docs/SPECIFICATION.md, where they are cited, and the rule table of docs/ARCHITECTURE.md.
+"""The rules of docs/SPECIFICATION.md, where they are cited, and the tables of rules and of crates in docs/ARCHITECTURE.md.
 
 Each check takes the folder of a repository and returns its faults, a line of text each; no fault means that it passed.
 """
@@ -6,8 +6,11 @@ Each check takes the folder of a repository and returns its faults, a line of te
 import re
 from collections import Counter, defaultdict
 
+import counts
+
 SPECIFICATION = "docs/SPECIFICATION.md"
 TABLE = "docs/ARCHITECTURE.md"
+DECISIONS = "docs/DECISIONS.md"
 
 # Rules that no definition can state: what is demanded, the worked examples, and the forms of the code. Code, a theorem or a test cites them.
 WITHOUT_DEFINITION = {"DEM", "EX", "FORM"}
@@ -21,6 +24,7 @@ NOT_READ = {"target", ".git", "__pycache__", "Cargo.lock"}
 NO_RULES = {"UTF-8"}
 
 CITATION = re.compile(r"(?<![\w-])[A-Z]{2,6}-[0-9]+(?![\w-])")
+DECISION = re.compile(r"(?<![\w-])D-[0-9]+(?![\w-])")
 
 
 # ---- files
@@ -191,10 +195,10 @@ def antt_names(path):
     return names
 
 
-def code_names(root, crate):
-    """The functions, types, constants and cases of enums of a crate."""
+def code_names(root, crate, file):
+    """The functions, types, constants and cases of enums of a crate's file, or of the whole crate if no file is given."""
     names = set()
-    for path in files(root, f"crates/{crate}/src"):
+    for path in files(root, f"crates/{crate}/src/{file}.rt" if file else f"crates/{crate}/src"):
         code = re.sub(r"//.*", "", text(path))
         names |= set(re.findall(r"\b(?:fn|struct|enum|const|type|static|mod)\s+(\w+)", code))
         names |= set(re.findall(r"^\s+([A-Z]\w*)(?:\(.*\))?,$", code, re.M))
@@ -202,9 +206,9 @@ def code_names(root, crate):
 
 
 def unknown(root, column, crate, file, names):
-    """Those of the names in a cell of the column that are not in the crate's file, or for functions in its code."""
+    """Those of the names in a cell of the column that are not in the crate's file."""
     if column == "function":
-        known = code_names(root, crate)
+        known = code_names(root, crate, file)
         return [n for n in names if not set(n.split("::")) <= known]
     folder = {"definition": "specs", "theorem": "proofs"}[column]
     known = antt_names(root / "crates" / crate / folder / f"{file}.antt")
@@ -231,12 +235,57 @@ def named(root):
     return [fault for rule, cells in rows(root) for fault in row_faults(root, rule, cells)]
 
 
+# ---- decisions
+
+
+def decisions(root):
+    """Each decision has a number of its own, and each that is cited is there."""
+    count = Counter(re.findall(r"^- \*\*(D-[0-9]+)\*\* \S", text(root / DECISIONS), re.M))
+    faults = [f"{decision} stands {n} times in {DECISIONS}" for decision, n in count.items() if n > 1]
+    for path in files(root, *CITING):
+        for number, line in enumerate(text(path).splitlines(), 1):
+            stray = [d for d in DECISION.findall(line) if d not in count]
+            faults += [f"{name_in(root, path)}:{number}: {d} is no decision" for d in stray]
+    return faults
+
+
+# ---- the table of crates: | crate | what it holds |
+
+
+def listed(root):
+    """The crates of crates.txt."""
+    lines = (line.partition("#")[0] for line in text(root / "crates.txt").splitlines())
+    return [line.partition(":")[0].strip() for line in lines if ":" in line]
+
+
+def described(root):
+    """The crates in the first cells of the table of crates, which begins with the line `| Crate |..` and ends with the first line that is no row."""
+    inside = False
+    for line in text(root / TABLE).splitlines():
+        if re.match(r"\|\s*Crate\s*\|", line):
+            inside = True
+        elif inside and not line.startswith("|"):
+            return
+        elif inside:
+            yield from re.findall(r"`(\w+)`", line.split("|")[1])
+
+
+def crates_described(root):
+    """Each crate of crates.txt stands once in the table of crates, and nothing else does."""
+    found = Counter(described(root))
+    faults = [f"{crate} stands {found[crate]} times in the table of crates" for crate in listed(root) if found[crate] != 1]
+    return faults + [f"{crate} stands in the table of crates and not in crates.txt" for crate in found if crate not in listed(root)]
+
+
 CHECKS = {
     "each rule has a number of its own under its heading": numbered,
     "each rule is cited": cited,
     "each rule has its row in the table": in_table,
     "each cited rule exists": existing,
     "each name in the table exists": named,
+    "each decision has a number of its own, and each cited one exists": decisions,
+    "each crate stands once in the table of crates": crates_described,
+    "no number of counts.txt has grown": counts.grown,
 }
 
 

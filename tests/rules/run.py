@@ -1,9 +1,10 @@
-"""Runs the check of the rules and its own tests, and counts what passed."""
+"""Runs the checks of rules, tables and counts, and their own tests, and counts what passed."""
 
 import sys
 from pathlib import Path
 
 import check
+import counts
 import self_test
 
 ROOT = Path(__file__).resolve().parents[2]
@@ -23,9 +24,14 @@ def report(results):
 def main(arguments):
     what = arguments[0] if arguments else "both"
     root = Path(arguments[1]) if len(arguments) > 1 else ROOT
+    if what == "--write":
+        counts.write(root)
+        return 0
     results = []
     if what in ("both", "--check"):
         results += check.results(root)
+        for line in counts.shrunk(root):
+            print(f"note: {line}: lower it with tests/rules/run --write")
     if what in ("both", "--self-test"):
         results += self_test.results()
     passed, failed = report(results)

@@ -4,8 +4,15 @@ import tempfile
 from pathlib import Path
 
 import check
+import counts
 
 GOOD = {
+    "crates.txt": """# the crates
+banks:
+lists: banks  # lists of calls
+parser: banks
+print:
+""",
     "docs/SPECIFICATION.md": """# Specification
 
 ## From address to cell
@@ -24,13 +31,25 @@ GOOD = {
 """,
     "docs/ARCHITECTURE.md": """# Architecture
 
+| Crate | What it holds |
+|---|---|
+| `banks` | `map` |
+| `lists` | lists |
+| `parser`, `print` | lines |
+
 | Rule | Definitions | Functions | Theorems |
 |---|---|---|---|
 | MAP-1 | banks/Map: `selected`, `Spans` | `map`, `Row::new` | contract; CellLaws `one-bank` |
 | MAP-2 | banks/Map: `_else_` | | lists/Run: `run-laws`; Deeper/Laws: `more-laws` |
-| FORM-1 | | banks: `Row`, `Mapping::NoBank`; lists: `go` | |
+| FORM-1 | | banks: `Row`, `Mapping::NoBank`; lists/lib: `go` | |
 | EX-1 | | | `tests/compare` |
 """,
+    "docs/DECISIONS.md": """# Decisions
+
+- **D-1** Rows are numbers.
+- **D-2** Columns too.
+""",
+    "docs/requests/01-rows.md": "Decided: D-1, D-2.\n",
     "crates/banks/specs/Map.antt": """-- MAP-1: the bank of an address
 unfoldable pub selected : Setup → ℕ
 pub record Spans : Type 0 where
@@ -49,7 +68,21 @@ impl Row {
     pub fn new(n: u32) -> Row
 }
 """,
-    "crates/banks/proofs/CellLaws.antt": "pub one-bank : A ≡ A\n",
+    "crates/banks/specs/CodeFields.antt": "unfoldable pub fields : A\n",
+    "crates/banks/proofs/CellLaws.antt": """-- unfolding outer
+use Rattle.banks.specs.Map.{selected}
+pub one-bank : A ≡ A
+unfolding selected
+""",
+    "crates/parser/specs/Format.antt": "use Rattle.banks.specs.Map.{selected}\n",
+    "crates/print/proofs/PrintLaws.antt": """use Rattle.banks.specs.Map.{selected, _else_}
+use Rattle.lists.specs.Run as run
+printed : A
+unfolding selected own
+printed-more : A
+  unfolding run.go
+""",
+    "tests/rules/counts.txt": "# a comment\nunfolds print 2\n",
     "crates/lists/src/lib.rt": "fn go(n: u8)\n",
     "crates/lists/proofs/Run.antt": "run-laws :\n",
     "crates/lists/proofs/Deeper/Laws.antt": "pub more-laws : A\n",
@@ -59,6 +92,9 @@ impl Row {
 
 SPECIFICATION, TABLE = check.SPECIFICATION, check.TABLE
 MAP, CODE, TEST = "crates/banks/specs/Map.antt", "crates/banks/src/lib.rt", "tests/compare/run"
+
+COUNTS = counts.STORED
+GROWN = "{}, and " + COUNTS + " allows {}"
 
 # for each check: label, file, what is replaced there, by what, and a fault that is then found
 BAD = {
@@ -79,7 +115,8 @@ BAD = {
         ("a definition that does not exist", TABLE, "`selected`", "`selects`", "MAP-1: no definition `selects` in banks/Map"),
         ("a definition in another file", TABLE, "Map: `_else_`", "Maps: `_else_`", "MAP-2: no definition `_else_` in banks/Maps"),
         ("a function that does not exist", TABLE, "`map`", "`mapp`", "MAP-1: no function `mapp` in banks"),
-        ("a function in another crate", TABLE, "lists: `go`", "`go`", "FORM-1: no function `go` in banks"),
+        ("a function in another crate", TABLE, "lists/lib: `go`", "`go`", "FORM-1: no function `go` in banks"),
+        ("a function in another file", TABLE, "lists/lib: `go`", "lists/more: `go`", "FORM-1: no function `go` in lists/more"),
         ("a case that does not exist", TABLE, "Mapping::NoBank", "Mapping::No", "FORM-1: no function `Mapping::No` in banks"),
         ("a theorem that does not exist", TABLE, "`one-bank`", "`a-bank`", "MAP-1: no theorem `a-bank` in banks/CellLaws"),
         ("a theorem in another file", TABLE, "Deeper/Laws: ", "Laws: ", "MAP-2: no theorem `more-laws` in lists/Laws"),
@@ -91,6 +128,21 @@ BAD = {
         ("a rule with two rows", TABLE, "| EX-1 |", "| FORM-1 |", f"FORM-1 has 2 rows in {TABLE}"),
         ("a row without a definition", TABLE, "banks/Map: `_else_`", "", "the row of MAP-2 names no definition"),
         ("a row with a cell too few", TABLE, "| EX-1 | |", "| EX-1 |", "the row of EX-1 has 3 cells and not 4"),
+    ],
+    check.decisions: [
+        ("a decision that is cited and not there", check.DECISIONS, "**D-2**", "**D-3**", "docs/requests/01-rows.md:1: D-2 is no decision"),
+        ("a number that two decisions have", check.DECISIONS, "**D-2**", "**D-1**", f"D-1 stands 2 times in {check.DECISIONS}"),
+    ],
+    check.crates_described: [
+        ("a crate that the table leaves out", TABLE, "`parser`, `print`", "`parser`", "print stands 0 times in the table of crates"),
+        ("a crate that the table has twice", TABLE, "| `lists` |", "| `lists`, `banks` |", "banks stands 2 times in the table of crates"),
+        ("a crate that crates.txt leaves out", "crates.txt", "print:\n", "", "print stands in the table of crates and not in crates.txt"),
+    ],
+    counts.grown: [
+        ("a line more that unfolds", "crates/print/proofs/PrintLaws.antt", "printed-more : A\n", "printed-more : A\nunfolding _else_\n", GROWN.format("unfolds print: 3", 2)),
+        ("a number that was lowered too far", COUNTS, "print 2", "print 1", GROWN.format("unfolds print: 2", 1)),
+        ("a number that is not stored", COUNTS, "unfolds print 2\n", "", GROWN.format("unfolds print: 2", 0)),
+        ("a definition that rests on a file for code", "crates/parser/specs/Format.antt", "Map.{selected}", "CodeFields.{fields}", GROWN.format("trusts parser: 1", 0)),
     ],
     check.numbered: [
         ("a number that is used twice", SPECIFICATION, "**MAP-2**", "**MAP-1**", f"MAP-1 stands 2 times in {SPECIFICATION}"),

@@ -13,8 +13,8 @@ use Rattle.basics.proofs.RangeLaws.{byCases, contra, first-passes, first-before
 use Rattle.basics.proofs.Zeros.{isSet}
 use Rattle.banks.specs.Setup.{Setup, bank}
 use Rattle.banks.specs.Judge.{meets, meetsLower, lowestMeeting}
-use Rattle.banks.specs.CodeFields.{enabledIn, bankIn, setupIn}
-use Rattle.banks.proofs.TakenLaws.{bank-in}
+use Rattle.address_map.specs.CodeFields.{enabledBy, bankBy, setupBy}
+use Rattle.address_map.proofs.SetupLaws.{bank-by}
 
 -- ---- a loop that asks every number below n
 pub every-none : (p : ℕ → Bool) → every p 0 ≡ true
@@ -45,11 +45,11 @@ leb-not n f = byCases (ltb f n) (λ t. rw (t, lt-leb n f (ltb-true f n t))) (λ 
 -- ---- pairs of banks
 pub meeting-in :
     (f : List ℕ) (n m : ℕ) → n < 8 → m < 8
-    → ((bank (setupIn f) n .enabled && bank (setupIn f) m .enabled) && (leb (getD f m 0) (getD f (8 + n) 0) && leb (getD f n 0) (getD f (8 + m) 0)))
-    ≡ (bank (setupIn f) n .enabled && meets (bank (setupIn f) n) (bank (setupIn f) m))
-unfolding meets bankIn enabledIn
+    → ((bank (setupBy f) n .enabled && bank (setupBy f) m .enabled) && (leb (getD f m 0) (getD f (8 + n) 0) && leb (getD f n 0) (getD f (8 + m) 0)))
+    ≡ (bank (setupBy f) n .enabled && meets (bank (setupBy f) n) (bank (setupBy f) m))
+unfolding meets bankBy enabledBy
 meeting-in f n m l k =
-    rw (bank-in f n l, bank-in f m k)
+    rw (bank-by f n l, bank-by f m k)
     (byCases (isSet (getD f 16 0) n)
     (λ t. byCases (isSet (getD f 16 0) m) (λ u. rw (t, u)) (λ u. rw (t, u)))
     (λ t. rw t))

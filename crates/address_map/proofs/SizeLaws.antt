@@ -7,18 +7,19 @@ use native.Mathlib.Omega.{arith}
 use lib.Dec.{ltb, leb, eqb}
 use lib.ListN.{getD}
 use lib.Pow.{pow-mono}
-use borrow.Author.Tests.{ltb-true, ltb-false, leb-true, leb-false, le-leb, lt-leb, lt-ltb, eqb-true}
+use borrow.Author.Tests.{ltb-true, ltb-false, leb-true, leb-false, le-leb, lt-leb, lt-ltb, eqb-true, ne-eqb}
 use Rattle.basics.proofs.Bools.{and-left, and-right}
 use Rattle.basics.proofs.RangeLaws.{byCases, contra, first-at}
 use Rattle.basics.proofs.Zeros.{greater-from, greater-holds, greater-least}
 use Rattle.banks.specs.declared.Bank.{Bank}
-use Rattle.banks.specs.Setup.{fewestRows, mostRows, megabytes, rowBits, fits, columnLimit, columnBits, Bounded}
+use Rattle.banks.specs.Setup.{fewestRowBits, mostRowBits, megabytes, rowBits, fits, columnLimit, columnBits}
+use Rattle.banks.specs.Judge.{faulty}
 use Rattle.banks.specs.Map.{cells}
-use Rattle.banks.specs.CodeFields.{codeIn, longestOf, enabledIn}
+use Rattle.address_map.specs.CodeFields.{codeBy, longestOf, enabledBy}
 use Rattle.address_map.specs.CodeSelection.{SizeBits, megabyteBits, bitsUnlessFaulty}
-use Rattle.banks.proofs.FieldLaws.{rows-by-code, rows-by-length, limit-is, fits-in, columns-narrow, long-columns}
-use Rattle.banks.proofs.LongestLaws.{longest-most, faulty-is}
-use Rattle.banks.proofs.TakenLaws.{code-below}
+use Rattle.banks.proofs.FieldLaws.{Decoded, rows-by-code, rows-by-length, limit-is, fits-in, columns-narrow, long-columns}
+use Rattle.address_map.proofs.LongestLaws.{longest-most, faulty-is}
+use Rattle.address_map.proofs.SetupLaws.{code-below, decoded-enabled}
 
 -- the longest bank of row codes 0 to 2
 longest-power : (code : ℕ) → code < 3 → longestOf code ≡ 2 ^ (2 * code + 1)
@@ -30,7 +31,7 @@ longest-power (suc (suc (suc k))) h = absurd (omega arith)
 
 -- m is the least number of bits, and no less than the row code, that holds the span's megabytes less one
 module _ (span code m : ℕ) (from : code ≤ m) (holds : span < 2 ^ m) (least : (k : ℕ) → span < 2 ^ k → code ≤ k → m ≤ k) where
-  module _ (R : ℕ) (rows : fewestRows + code ≤ R) where
+  module _ (R : ℕ) (rows : fewestRowBits + code ≤ R) where
     -- so many column bits are enough exactly from that length on
     fits-from : (c : ℕ) → 8 ≤ c → fits R (span + 1) c ≡ leb m (R + c - 17)
     fits-from c k =
@@ -49,7 +50,7 @@ module _ (span code m : ℕ) (from : code ≤ m) (holds : span < 2 ^ m) (least :
         u ∙ sym t)
 
     -- if there is room, rows and columns number 2 ^ (17 + m) doublewords
-    columns-number : R ≤ fewestRows + m → 17 + m ≤ R + columnLimit R → 17 + m ≡ R + columnBits R (span + 1)
+    columns-number : R ≤ fewestRowBits + m → 17 + m ≤ R + columnLimit R → 17 + m ≡ R + columnBits R (span + 1)
     unfolding columnBits
     columns-number few room =
         let c = 17 + m - R in
@@ -59,7 +60,7 @@ module _ (span code m : ℕ) (from : code ≤ m) (holds : span < 2 ^ m) (least :
         rw e (omega arith)
 
     -- m tells the size of a span with R row bits and room
-    size-at : rowBits code (span + 1) ≡ R → R ≤ fewestRows + m → 17 + m ≤ R + columnLimit R → SizeBits span code m
+    size-at : rowBits code (span + 1) ≡ R → R ≤ fewestRowBits + m → 17 + m ≤ R + columnLimit R → SizeBits span code m
     size-at r few room = λ _. rw r (columns-number few room)
 
   -- row code 3, and more than 128 megabytes
@@ -70,12 +71,12 @@ module _ (span code m : ℕ) (from : code ≤ m) (holds : span < 2 ^ m) (least :
       (λ t. let p : 2 ^ m ≤ 2 ^ 7 = pow-mono {j = 7} (omega (arith, ltb-true m 8 t)) in absurd (omega (arith, holds, p)))
       (λ t. ltb-false m 8 t) in
       let most : m ≤ 8 = least 8 h (omega arith) in
-      size-at mostRows (omega arith) (rw e (rows-by-length (span + 1) l)) (omega arith) (omega arith)
+      size-at mostRowBits (omega arith) (rw e (rows-by-length (span + 1) l)) (omega arith) (omega arith)
 
   -- the row bits of the code alone
   size-short : (k : ℕ) → (128 < span + 1 → code ≡ 3 → ⊥) → code < 4 → span < 2 ^ k → code ≤ k → k ≤ 2 * code + 1 → SizeBits span code m
   size-short k short l h c r =
-      let R = fewestRows + code in
+      let R = fewestRowBits + code in
       size-at R (omega arith) (rows-by-code code (span + 1) short) (omega arith)
       (omega (arith, limit-is R (omega arith), least k h c))
 
@@ -99,38 +100,56 @@ size-is span code j c h l =
 
 -- ---- the bits of an enabled bank; w is its last megabyte less its start, modulo 2 ^ 32
 module _
-    (f : List ℕ) (n w k : ℕ) (x : getD f n 0 < 1024) (y : getD f (8 + n) 0 < 1024) (v : w < 2 ^ 32) (d : (w + getD f n 0) % 2 ^ 32 ≡ getD f (8 + n) 0)
-    (z : SizeBits (w % 2 ^ 31) (codeIn f n) k) where
-  pub bits-are : cond (ltb w (longestOf (codeIn f n))) k 32 ≡ bitsUnlessFaulty (enabledIn f n)
-  unfolding bitsUnlessFaulty megabyteBits enabledIn megabytes
+    (f : List ℕ) (n w k : ℕ) (x : getD f n 0 < 2 ^ 16) (y : getD f (8 + n) 0 < 2 ^ 16) (v : w < 2 ^ 32) (d : (w + getD f n 0) % 2 ^ 32 ≡ getD f (8 + n) 0)
+    (z : SizeBits (w % 2 ^ 31) (codeBy f n) k) where
+  pub bits-are : cond (ltb w (longestOf (codeBy f n))) k 32 ≡ bitsUnlessFaulty (enabledBy f n)
+  unfolding bitsUnlessFaulty megabyteBits enabledBy megabytes
   bits-are =
       let start = getD f n 0 in
       let last = getD f (8 + n) 0 in
-      let m = longestOf (codeIn f n) in
+      let m = longestOf (codeBy f n) in
       let faulty = faulty-is f n w x y v d in
       byCases (ltb w m)
       (λ t.
       let l = ltb-true w m t in
-      let e : last + 1 - start ≡ w % 2 ^ 31 + 1 = omega (arith, l, longest-most (codeIn f n) (code-below f n)) in
+      let e : last + 1 - start ≡ w % 2 ^ 31 + 1 = omega (arith, l, longest-most (codeBy f n) (code-below f n)) in
       rw (t, faulty, lt-leb m w l, e) (omega (arith, z (omega (arith, l)))))
       (λ t. rw (t, faulty, le-leb m w (ltb-false w m t)))
 
--- ---- the bits of a bank that keeps to the bounds
-pub few-bits : (b : Bank) → Bounded b → megabyteBits b ≤ 8
+-- ---- the bits of any bank
+pub few-bits : (b : Bank) → Decoded b → megabyteBits b ≤ 8
 unfolding megabyteBits
 few-bits b h = omega arith
 
-pub cells-bits : (b : Bank) → Bounded b → cells b ≡ 2 ^ (17 + megabyteBits b)
+pub cells-bits : (b : Bank) → Decoded b → cells b ≡ 2 ^ (17 + megabyteBits b)
 unfolding cells megabyteBits
 cells-bits b h = ap (λ (x : ℕ). 2 ^ x) (omega arith)
 
+-- 32 stands for a faulty bank alone
+pub faulty-stands : (f : List ℕ) (n : ℕ) → eqb (bitsUnlessFaulty (enabledBy f n)) 32 ≡ faulty (enabledBy f n)
+unfolding bitsUnlessFaulty
+faulty-stands f n =
+    let b = enabledBy f n in
+    byCases (faulty b) (λ t. rw t)
+    (λ t. rw t (ne-eqb (megabyteBits b) 32 (λ e. omega (arith, e, few-bits b (decoded-enabled f n)))))
+
+-- the column bits, by those bits and the row bits
+pub columns-are : (b : Bank) → Decoded b → 17 + megabyteBits b - b .«row_bits» ≡ b .«column_bits»
+unfolding megabyteBits
+columns-are b h = omega arith
+
+-- and the row bits are what is left
+pub rows-left : (b : Bank) → Decoded b → 17 + megabyteBits b - b .«column_bits» ≡ b .«row_bits»
+unfolding megabyteBits
+rows-left b h = omega arith
+
 -- the row bits of an enabled bank, by those bits
-pub rows-by-bits : (f : List ℕ) (n : ℕ) → enabledIn f n .rows ≡ fewestRows + codeIn f n + megabyteBits (enabledIn f n) / 8
-unfolding enabledIn megabyteBits
+pub rows-by-bits : (f : List ℕ) (n : ℕ) → enabledBy f n .«row_bits» ≡ fewestRowBits + codeBy f n + megabyteBits (enabledBy f n) / 8
+unfolding enabledBy megabyteBits
 rows-by-bits f n =
     let L = megabytes (getD f n 0) (getD f (8 + n) 0) in
-    let code = codeIn f n in
-    let R = fewestRows + code in
+    let code = codeBy f n in
+    let R = fewestRowBits + code in
     byCases (eqb code 3 && ltb 128 L)
     (λ t.
     let e = eqb-true code 3 (and-left (eqb code 3) (ltb 128 L) t) in
@@ -145,7 +164,7 @@ rows-by-bits f n =
 pub within-is :
     (start last mb w : ℕ)
     → start ≤ last
-    → last < 1024
+    → last < 2 ^ 16
     → w < 2 ^ 32
     → mb < 2 ^ 32
     → (w + start) % 2 ^ 32 ≡ mb → leb w (last - start) ≡ (leb start mb && leb mb last)

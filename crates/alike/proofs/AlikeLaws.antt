@@ -1,4 +1,4 @@
--- When two set-ups are alike: every 32-bit address has the same bank, row and column in both, or no bank in both; and one test for each of
+-- When two set-ups are alike: both map each 32-bit address in the same way, to one bank, row and column or to no bank; and one test for each of
 -- 1,024 megabytes decides it.
 use mathlib.Core.Path.{_≡_, refl, sym, ap}
 use mathlib.Core.Bool.{Bool, true, false, not, _&&_, _||_}
@@ -17,7 +17,7 @@ use Rattle.alike.specs.Alike.{samePlace, sameAt, alike}
 use Rattle.alike.specs.CodeMegabyte.{samePart, sameMegabyte}
 use Rattle.banks.proofs.RowLaws.{row-is, column-is}
 use Rattle.banks.proofs.SpanLaws.{none-past}
-use Rattle.alike.proofs.MegabyteLaws.{Placed, placed, placed-same, part-place, place-part}
+use Rattle.alike.proofs.FirstCellLaws.{Placed, placed, placed-same, part-place, place-part}
 
 -- ---- tests
 -- x, and p where y
@@ -37,7 +37,7 @@ equal-tests false true f g = g refl
 equal-tests false false f g = refl
 
 -- ---- what alike means
--- the address has the same bank, row and column in both set-ups, or no bank in both
+-- both set-ups map the address in the same way, to one bank, row and column or to no bank
 pub record Agree (s t : Setup) (a : ℕ) : Type 0 where
   pub same-bank : selected s a ≡ selected t a
   pub same-row : inSpan s a ≡ true → rowOf (bank s (selected s a)) a ≡ rowOf (bank t (selected t a)) a

@@ -26,10 +26,10 @@ use Rattle.banks.proofs.CellLaws.{bank-selected}
 use Rattle.alike.specs.Alike.{alike, compared}
 use Rattle.alike.specs.CodeMegabyte.{samePart, sameMegabyte, sameBank}
 use Rattle.banks.proofs.MegabyteLaws.{bounded-large, reach, reach-cells}
-use Rattle.alike.proofs.MegabyteLaws.{part, part-same, row-reach, reach-row}
+use Rattle.alike.proofs.FirstCellLaws.{part, part-same, row-reach, reach-row}
 use Rattle.alike.proofs.AlikeLaws.{both, both-right, equal-tests, alike-every}
 
--- ---- remainders within a window
+-- ---- remainders of numbers in a row
 -- between two numbers whose remainders are small, and that are close, every remainder is small
 small-between :
     (p k x y m : ℕ)
@@ -157,7 +157,7 @@ same-part b c d e f g h m l u =
     let q = part (b .last) b c (h .at-last) in
     let w : b .last < b .start + reach b = omega (arith, f .roomy, reach-cells b (bounded-large b d)) in
     let v : b .last < b .start + reach c = omega (arith, g .roomy, reach-cells c (bounded-large c e), h .start, h .last) in
-    let r = same-within (b .rows + b .columns - 17) (c .rows + c .columns - 17) (b .start) (b .last) m
+    let r = same-within (b .«row_bits» + b .«column_bits» - 17) (c .«row_bits» + c .«column_bits» - 17) (b .start) (b .last) m
     (row-reach b c d e (b .start) p) (row-reach b c d e (b .last) q) l u w v in
     part-same m b c (reach-row b c d e m (p .columns) r)
 

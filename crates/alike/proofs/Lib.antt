@@ -1,4 +1,4 @@
-pub mod MegabyteLaws
+pub mod FirstCellLaws
 pub mod AlikeLaws
 pub mod BankLaws
 pub mod AlikeExamples

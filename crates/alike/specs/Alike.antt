@@ -15,7 +15,7 @@ use Rattle.banks.specs.Map.{inSpan, selected, rowOf, columnOf}
 unfoldable pub samePlace : ℕ → Bank → Bank → Bool
 samePlace a b c = eqb (rowOf b a .0) (rowOf c a .0) && eqb (columnOf b a .0) (columnOf c a .0)
 
--- ALIKE-1: the address has the same bank, row and column in both, or none (bank 8) in both; ALIKE-2: nothing else is compared
+-- ALIKE-1: both map the address in the same way, to one bank, row and column or to none (bank 8); ALIKE-2: nothing else is compared
 unfoldable pub sameAt : Setup → Setup → ℕ → Bool
 sameAt s t a =
     eqb (selected s a) (selected t a) && (not (inSpan s a) || samePlace a (bank s (selected s a)) (bank t (selected s a)))

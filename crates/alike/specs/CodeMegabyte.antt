@@ -9,7 +9,7 @@ use Rattle.banks.specs.Map.{bankAt, rowOf}
 
 -- both banks have the same number of column bits and place the first doubleword of megabyte m in the same row
 unfoldable pub samePart : ℕ → Bank → Bank → Bool
-samePart m b c = eqb (b .columns) (c .columns) && eqb (rowOf b (m * 2 ^ 20) .0) (rowOf c (m * 2 ^ 20) .0)
+samePart m b c = eqb (b .«column_bits») (c .«column_bits») && eqb (rowOf b (m * 2 ^ 20) .0) (rowOf c (m * 2 ^ 20) .0)
 
 -- megabyte m has the same bank in both set-ups, with its addresses at the same rows and columns, or no bank in both
 unfoldable pub sameMegabyte : Setup → Setup → ℕ → Bool

@@ -21,14 +21,14 @@ fn row(b: Bank, address: u32) -> u32
     requires { ⌜ Bounded b ⌝ }
     ensures { λ x. ⌜ x ≡ rowOf b address .0 ⌝ }
 {
-    (address >> 3 & ((1u32 << (b.rows + b.columns)) - 1)) >> b.columns
+    (address >> 3 & ((1u32 << (b.row_bits + b.column_bits)) - 1)) >> b.column_bits
 }
 
 fn is_same_part(m: u32, b: Bank, c: Bank) -> bool
     requires { ⌜ (m < 1024) × Bounded b × Bounded c ⌝ }
     ensures { λ t. ⌜ t ≡ samePart m b c ⌝ }
 {
-    (b.columns == c.columns) & (row(b, m << 20) == row(c, m << 20))
+    (b.column_bits == c.column_bits) & (row(b, m << 20) == row(c, m << 20))
 }
 
 fn is_same_bank(b: Bank, c: Bank) -> bool
@@ -46,14 +46,14 @@ fn is_same_bank(b: Bank, c: Bank) -> bool
 pub fn compare(r: Registers, s: Registers) -> Comparison
     ensures { λ x. ⌜ paperComparison x ≡ compared (setupOf r) (setupOf s) ⌝ }
 {
-    if !banks::is_ready(r) {
+    if !judging::is_ready(r) {
         return Comparison::Refused(Refusal::NotReady);
     }
-    if !banks::is_ready(s) {
+    if !judging::is_ready(s) {
         return Comparison::Refused(Refusal::NotReady);
     }
     for n in 0..8u32 {
-        if !is_same_bank(banks::decode_bank(r, n), banks::decode_bank(s, n)) {
+        if !is_same_bank(judging::decode_bank(r, n), judging::decode_bank(s, n)) {
             return Comparison::Different;
         }
     }

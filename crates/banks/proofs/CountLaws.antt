@@ -47,7 +47,7 @@ marked-here s n i e = rw (e, le-ltb n n (omega arith), lt-ltb n (n + 1) (omega a
 
 module _ (s : Setup) (d : (n : ℕ) → Decoded (bank s n)) (ends : (n : ℕ) → bank s n .last < 1024) (h : ready s ≡ true) where
   -- a bank with thirteen row bits holds a mark
-  mark-held : (n : ℕ) → n < 8 → bank s n .enabled ≡ true → 12 < bank s n .rows → marks s n < marks s (n + 1)
+  mark-held : (n : ℕ) → n < 8 → bank s n .enabled ≡ true → 12 < bank s n .«row_bits» → marks s n < marks s (n + 1)
   unfolding megabytes
   mark-held n l on long =
       let b = bank s n in
@@ -64,8 +64,8 @@ module _ (s : Setup) (d : (n : ℕ) → Decoded (bank s n)) (ends : (n : ℕ) �
   share-most n l =
       let b = bank s n in
       let grows = sum-grows (marked s n) (marked s (n + 1)) 7 (marked-grows s n) in
-      let R = b .rows in
-      let C = b .columns in
+      let R = b .«row_bits» in
+      let C = b .«column_bits» in
       let most = d n .columns-narrow in
       byCases (b .enabled)
       (λ on.

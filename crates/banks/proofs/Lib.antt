@@ -1,7 +1,5 @@
 pub mod RowLaws
 pub mod FieldLaws
-pub mod TakenLaws
-pub mod LongestLaws
 pub mod StoreLaws
 pub mod SpanLaws
 pub mod AcceptedLaws

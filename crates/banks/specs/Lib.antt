@@ -1,4 +1,3 @@
 pub mod Setup
-pub mod CodeFields
 pub mod Judge
 pub mod Map

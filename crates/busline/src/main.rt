@@ -15,16 +15,9 @@ enum Next {
 }
 
 // What is kept after a read, and what follows it.
-struct Turned {
+struct AfterRead {
     next: Next,
     kept: Kept,
-}
-
-fn stopped(kept: Kept) -> Turned {
-    Turned {
-        next: Next::Stop,
-        kept: kept,
-    }
 }
 
 // Writes the first n bytes of the output, or a message if that fails.
@@ -39,38 +32,42 @@ fn flush(out: &[u8], n: usize) -> bool {
     is_written
 }
 
-// Takes a chunk and writes the output of the lines that it completes.
-fn take(kept: Kept, cells: &mut [u8], chunk: &[u8], out: &mut [u8]) -> Turned {
-    let stepped = lines::step(kept, cells, chunk, out);
-    let after = stepped.kept;
-    let taken = stepped.taken;
+// Writes the n bytes that a chunk printed, if it was taken, and says what follows.
+fn written(taken: bool, out: &[u8], n: usize) -> Next {
     if !taken {
         io::write_all(STDERR_FILENO, b"busline: no room for the output\n");
-        return stopped(after);
+        return Next::Stop;
     }
-    let written = stepped.written;
-    let is_written = flush(out, written);
-    if !is_written {
-        return stopped(after);
-    }
-    Turned {
-        next: Next::Read,
+    let is_written = flush(out, n);
+    if is_written { Next::Read } else { Next::Stop }
+}
+
+// Takes a chunk and writes the output of the lines that it completes.
+fn take(kept: Kept, cells: &mut [u8], chunk: &[u8], out: &mut [u8]) -> AfterRead {
+    let stepped = lines::step(kept, cells, chunk, out);
+    let next = written(stepped.taken, out, stepped.written);
+    let after = stepped.kept;
+    AfterRead {
+        next: next,
         kept: after,
     }
 }
 
 // One read, and the chunk that it returns.
-fn turn(kept: Kept, cells: &mut [u8], chunk: &mut [u8], out: &mut [u8]) -> Turned {
+fn turn(kept: Kept, cells: &mut [u8], chunk: &mut [u8], out: &mut [u8]) -> AfterRead {
     let got = libc::read(STDIN_FILENO, chunk);
     if got < 0 {
         io::write_all(
             STDERR_FILENO,
             b"busline: cannot read standard input; an unfinished line is not executed\n",
         );
-        return stopped(kept);
+        return AfterRead {
+            next: Next::Stop,
+            kept: kept,
+        };
     }
     if got == 0 {
-        return Turned {
+        return AfterRead {
             next: Next::Finish,
             kept: kept,
         };
@@ -80,7 +77,7 @@ fn turn(kept: Kept, cells: &mut [u8], chunk: &mut [u8], out: &mut [u8]) -> Turne
 }
 
 // Reads the whole input. A proved loop must end, and the input might not, so the loop counts down from a number that no run reaches the end of.
-fn read_all(start: Kept, cells: &mut [u8], chunk: &mut [u8], out: &mut [u8]) -> Turned {
+fn read_all(start: Kept, cells: &mut [u8], chunk: &mut [u8], out: &mut [u8]) -> AfterRead {
     let mut kept = start;
     let mut turns = u64::MAX;
     while turns > 0 {
@@ -98,13 +95,19 @@ fn read_all(start: Kept, cells: &mut [u8], chunk: &mut [u8], out: &mut [u8]) -> 
         }
         turns -= 1;
     }
-    Turned {
+    AfterRead {
         next: Next::Finish,
         kept: kept,
     }
 }
 
-// Runs from the start to the end of the input; bytes that are left then are a line (LINE-1).
+// The end of the input: bytes that are left then are a line (LINE-1).
+fn last_line(kept: Kept, cells: &mut [u8], out: &mut [u8]) {
+    let line = lines::finish(kept, cells, out);
+    flush(out, line.printed);
+}
+
+// Runs from the start to the end of the input.
 fn run(cells: &mut [u8], chunk: &mut [u8], out: &mut [u8]) {
     let start = lines::start(cells);
     let turned = read_all(start, cells, chunk, out);
@@ -113,10 +116,7 @@ fn run(cells: &mut [u8], chunk: &mut [u8], out: &mut [u8]) {
     match next {
         Next::Read => {}
         Next::Stop => {}
-        Next::Finish => {
-            let line = lines::finish(kept, cells, out);
-            flush(out, line.printed);
-        }
+        Next::Finish => last_line(kept, cells, out),
     }
 }
 

@@ -1,1 +1,3 @@
-pub mod PartLaws
+pub mod LaneLaws
+pub mod GatherLaws
+pub mod StoreLaws

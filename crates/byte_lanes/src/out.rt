@@ -7,8 +7,7 @@ ghost use lib.ListN.{length, getD, take, drop};
 ghost use Rattle.eight_bytes.specs.CodeNumber.{eightAcross};
 ghost use Rattle.ecc.specs.Doubleword.{bytesOfNumber};
 ghost use Rattle.calls.specs.Calls.{crosses};
-use crate::whole::copy_all;
-use split::crosses_end;
+use crate::whole::copy_eight;
 
 // Byte k of a doubleword.
 fn byte(doubleword: u64, k: usize) -> u8
@@ -24,7 +23,7 @@ fn copy_from(doubleword: u64, offset: usize, buffer: &mut [u8])
     ensures { λ _. ⌜ now (buffer .exit) ≡ take (length (now (buffer .entry))) (drop offset (bytesOfNumber doubleword)) ⌝ }
 {
     if buffer.len() == 8 {
-        copy_all(doubleword, buffer);
+        copy_eight(doubleword, buffer, 0);
         return;
     }
     let mut i: usize = 0;
@@ -39,7 +38,7 @@ fn copy_from(doubleword: u64, offset: usize, buffer: &mut [u8])
 pub fn copy_out(doubleword: u64, address: u32, buffer: &mut [u8])
     ensures { λ _. ⌜ now (buffer .exit) ≡ cond (crosses address (length (now (buffer .entry)))) (now (buffer .entry)) (take (length (now (buffer .entry))) (drop (address % 8) (bytesOfNumber doubleword))) ⌝ }
 {
-    if crosses_end(address, buffer.len()) {
+    if (8 - (address % 8) as usize) < buffer.len() {
         return;
     }
     copy_from(doubleword, (address % 8) as usize, buffer);

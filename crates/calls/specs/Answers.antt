@@ -8,7 +8,7 @@ use Rattle.refusals.specs.declared.Verdict.the-variants as verdict
 use Rattle.calls.specs.declared.Kind.{Kind}
 use Rattle.calls.specs.declared.Part.{Part}
 use Rattle.calls.specs.declared.Answer.{Answer}
-use Rattle.calls.specs.Calls.{Got, Given}
+use Rattle.calls.specs.Calls.{AccessAnswer, CallAnswer}
 use Rattle.calls.specs.State.{State}
 
 -- DEM-1, DEM-4: all that a call gives and leaves: the answer with a kind for each access, the state, and the buffer, which is empty if none is lent
@@ -36,16 +36,16 @@ abbrev pub leaves : Answer → State → List ℕ → Effect
 leaves x st buffer = record { answer = paperAnswer x; state = st; buffer = buffer }
 
 -- the kinds of what the accesses gave
-abbrev pub kindsOf : List Got → List Kind
+abbrev pub kindsOf : List AccessAnswer → List Kind
 kindsOf [] = []
 kindsOf (g ∷ gs) = g .kind ∷ kindsOf gs
 
 -- the bytes that the accesses read, in order
-abbrev pub bytesOf : List Got → List ℕ
+abbrev pub bytesOf : List AccessAnswer → List ℕ
 bytesOf [] = []
 bytesOf (g ∷ gs) = g .bytes ++ bytesOf gs
 
 -- DEM-1: a refused call leaves the buffer as it was; an accepted one fills it
-abbrev pub effectOf : Given × State → List ℕ → Effect
+abbrev pub effectOf : CallAnswer × State → List ℕ → Effect
 effectOf (refused n, st) buffer = record { answer = refused n; state = st; buffer = buffer }
 effectOf (given gs, st) buffer = record { answer = given (kindsOf gs); state = st; buffer = bytesOf gs }

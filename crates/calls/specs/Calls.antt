@@ -67,17 +67,17 @@ parts (burstRead a n) = fourBeats (λ i. readIn (beatAddress a i) 8)
 parts (burstWrite a bs) = fourBeats (λ i. writeIn (beatAddress a i) (beatBytes bs i))
 
 -- LIST-9: what an accepted access gives: its answer, and the bytes that a read puts in its buffer
-pub record Got : Type 0 where
+pub record AccessAnswer : Type 0 where
   pub kind : Kind
   pub bytes : List ℕ
 
 -- the same, made from its two parts
-abbrev pub got : Kind → List ℕ → Got
+abbrev pub got : Kind → List ℕ → AccessAnswer
 got k bs = record { kind = k; bytes = bs }
 
--- LIST-8, LIST-9: what a memory call gives: a refusal with all that it returns, or what each of its accesses gives
-abbrev pub Given : Type 0
-Given = Outcome (List Got)
+-- LIST-8, LIST-9: what a memory call gives: the refusal and what comes with it, or what each of its accesses gives
+abbrev pub CallAnswer : Type 0
+CallAnswer = Outcome (List AccessAnswer)
 
 -- LIST-1: a call of a list: a memory call, or a register read or write
 pub data Call : Type 0 where

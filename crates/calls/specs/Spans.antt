@@ -7,7 +7,7 @@ use lib.Dec.{ltb, eqb}
 use lib.ListN.{length, replicate}
 use Rattle.refusals.specs.Paper.{Declined, refuse, _else_}
 use Rattle.calls.specs.declared.Kind.the-variants.{NoBank}
-use Rattle.calls.specs.Calls.{MemoryCall, read, write, flip, scrub, burstRead, burstWrite, Access, readIn, writeIn, flipIn, scrubIn, Got, got}
+use Rattle.calls.specs.Calls.{MemoryCall, read, write, flip, scrub, burstRead, burstWrite, Access, readIn, writeIn, flipIn, scrubIn, AccessAnswer, got}
 
 -- FLAT-6: which addresses the spans of the enabled banks hold
 pub record Spans : Type 0 where
@@ -48,7 +48,7 @@ unfoldable pub byCall : Spans → MemoryCall → Declined
 byCall spans c = byArguments c else bySpans spans c
 
 -- MEM-9: what an access gives if no bank is selected. A flip is refused then, and never gets here
-unfoldable pub missed : Access → Got
+unfoldable pub missed : Access → AccessAnswer
 missed (readIn a n) = got NoBank (replicate n 0xFF)
 missed (writeIn a bs) = got NoBank []
 missed (flipIn a b) = got NoBank []

@@ -1,5 +1,5 @@
--- The folded check byte is the check byte under the columns of ECC-2: both respect the exclusive-or, and they agree on every doubleword with just
--- one bit set, which is shown by computation.
+-- The folded check byte is the check byte under the columns of ECC-2: both respect the exclusive-or, and of a doubleword with just one bit set each is
+-- the column of that bit in the table, which is shown for the masks by one computation over the table.
 use mathlib.Core.Path.{_≡_, refl, sym, ap, ap₂, _∙_, subst}
 use mathlib.Core.Bool.{true}
 use mathlib.Core.List.{List}
@@ -20,7 +20,7 @@ use Rattle.ecc.specs.CheckCode.{bitAt, dataBit, taken, xorOf, checkOf}
 use Rattle.ecc.specs.Doubleword.{bytesOfNumber}
 use Rattle.check_byte.specs.CodeFold.{rotated, masked, folded, overShifted, foldedMasks, laidOver, foldedCheck}
 use Rattle.ecc.proofs.BitLaws.{bit-xor, taken-xor}
-use Rattle.ecc.proofs.DoublewordLaws.{number-at}
+use Rattle.ecc.proofs.DoublewordLaws.{number-at, placeOf, check-one}
 use Rattle.ecc.proofs.FlipLaws.{data-lt}
 
 -- ---- the check byte under any columns
@@ -93,7 +93,7 @@ pair-linear k l m n = folded-linear _ _ (masks-linear k l) (masks-linear m n) 2
 
 folded-masks-linear : Linear foldedMasks
 unfolding foldedMasks
-folded-masks-linear = folded-linear _ _ (pair-linear _ _ _ _) (pair-linear _ _ _ _) 1
+folded-masks-linear = folded-linear _ _ (pair-linear _ _ _ _) (pair-linear _ _ _ _) _
 
 thrice-linear : (f : ℕ → ℕ) → Linear f → (i j k : ℕ) → Linear (λ x. overShifted (overShifted (overShifted (f x) i) j) k)
 thrice-linear f lf i j k =
@@ -106,12 +106,22 @@ fold-linear =
 
 -- ---- they agree
 
-one-bit : every (λ k. eqb (foldedCheck (2 ^ k)) (checkOf columns (bytesOfNumber (2 ^ k)))) 64 ≡ true
-unfolding every foldedCheck laidOver foldedMasks folded overShifted masked rotated checkOf xorOf dataBit bitAt bytesOfNumber
-one-bit = refl
+-- FORM-5: the masks are those of the table of columns (`ecc::columns::COLUMNS`, which is proved to be this list): of a doubleword in which just data
+-- bit i is set the folds leave entry i of the table, for each of its 64 entries
+masks-are-columns : every (λ i. eqb (foldedCheck (2 ^ placeOf i)) (getD columns i 0)) 64 ≡ true
+unfolding every foldedCheck laidOver foldedMasks folded overShifted masked rotated
+masks-are-columns = refl
+
+-- every bit of a number is some data bit
+one-bit : (k : ℕ) → k < 64 → foldedCheck (2 ^ k) ≡ checkOf columns (bytesOfNumber (2 ^ k))
+one-bit k h =
+    let i : ℕ = placeOf k in
+    let within : i < 64 = omega arith in
+    let back : placeOf i ≡ k = omega arith in
+    rw (← back)
+    (eqb-true (foldedCheck (2 ^ placeOf i)) (getD columns i 0)
+    (every-at (λ j. eqb (foldedCheck (2 ^ placeOf j)) (getD columns j 0)) 64 masks-are-columns i within)
+    ∙ sym (check-one columns i within))
 
 pub fold-is-check : (x : ℕ) → x < 2 ^ 64 → foldedCheck x ≡ checkOf columns (bytesOfNumber x)
-fold-is-check =
-    linear-same foldedCheck (λ x. checkOf columns (bytesOfNumber x)) fold-linear (check-linear columns) 64
-    (λ k h. eqb-true (foldedCheck (2 ^ k)) (checkOf columns (bytesOfNumber (2 ^ k)))
-    (every-at (λ j. eqb (foldedCheck (2 ^ j)) (checkOf columns (bytesOfNumber (2 ^ j)))) 64 one-bit k h))
+fold-is-check = linear-same foldedCheck (λ x. checkOf columns (bytesOfNumber x)) fold-linear (check-linear columns) 64 one-bit

@@ -16,7 +16,7 @@ byte-more m =
     ap (λ (j : ℕ). 2 ^ j) e ∙ pow-add 2 (8 * m) 8
 
 -- a number by its m lowest bytes and those above
-bytes-append : (m n x y : ℕ) → m ≤ n → x < 2 ^ (8 * m) → bytesIn n (x + y * 2 ^ (8 * m)) ≡ bytesIn m x ++ bytesIn (n - m) y
+pub bytes-append : (m n x y : ℕ) → m ≤ n → x < 2 ^ (8 * m) → bytesIn n (x + y * 2 ^ (8 * m)) ≡ bytesIn m x ++ bytesIn (n - m) y
 bytes-append zero n x y l h =
     let e : x + y * 2 ^ (8 * 0) ≡ y = omega arith in
     let all : n - 0 ≡ n = omega arith in
@@ -31,7 +31,8 @@ bytes-append (suc m) (suc n) x y l h =
     let same : suc n - suc m ≡ n - m = omega arith in
     ap₂ (λ (b : ℕ) (t : List ℕ). b ∷ t) first (ap (bytesIn n) rest ∙ bytes-append m n (x / 256) y (omega arith) below ∙ ap (λ (k : ℕ). bytesIn m (x / 256) ++ bytesIn k y) (sym same))
 
-bytes-drop : (o n x : ℕ) → o ≤ n → drop o (bytesIn n x) ≡ bytesIn (n - o) (x / 2 ^ (8 * o))
+-- all but the o lowest
+pub bytes-drop : (o n x : ℕ) → o ≤ n → drop o (bytesIn n x) ≡ bytesIn (n - o) (x / 2 ^ (8 * o))
 bytes-drop zero n x l =
     let all : n - 0 ≡ n = omega arith in
     let same : x / 2 ^ (8 * 0) ≡ x = omega arith in
@@ -42,14 +43,20 @@ bytes-drop (suc o) (suc n) x l =
     let same : suc n - suc o ≡ n - o = omega arith in
     bytes-drop o n (x / 256) (omega arith) ∙ ap₂ bytesIn (sym same) (shr-shr x 8 (8 * o) ∙ ap (λ (j : ℕ). x / 2 ^ j) e)
 
-bytes-take : (o n x : ℕ) → o ≤ n → take o (bytesIn n x) ≡ bytesIn o (x % 2 ^ (8 * o))
+-- the o lowest
+pub bytes-take : (o n x : ℕ) → o ≤ n → take o (bytesIn n x) ≡ bytesIn o x
 bytes-take zero n x l = refl
 bytes-take (suc o) zero x l = absurd (omega arith)
-bytes-take (suc o) (suc n) x l =
+bytes-take (suc o) (suc n) x l = ap (λ (t : List ℕ). x % 256 ∷ t) (bytes-take o n (x / 256) (omega arith))
+
+-- they are those of the low part
+pub bytes-low : (o x : ℕ) → bytesIn o (x % 2 ^ (8 * o)) ≡ bytesIn o x
+bytes-low zero x = refl
+bytes-low (suc o) x =
     let e : 8 * suc o ≡ 8 * o + 8 = omega arith in
     let first : x % 2 ^ (8 * suc o) % 256 ≡ x % 256 = ap (λ (j : ℕ). x % 2 ^ j % 256) e ∙ mod-mod-pow x (8 * o) 8 in
     let rest : x % 2 ^ (8 * suc o) / 256 ≡ x / 256 % 2 ^ (8 * o) = ap (λ (j : ℕ). x % 2 ^ j / 256) e ∙ field x (8 * o) 8 in
-    ap₂ (λ (b : ℕ) (t : List ℕ). b ∷ t) (sym first) (bytes-take o n (x / 256) (omega arith) ∙ ap (bytesIn o) (sym rest))
+    ap₂ (λ (b : ℕ) (t : List ℕ). b ∷ t) first (ap (bytesIn o) rest ∙ bytes-low o (x / 256))
 
 -- ---- a number shifted down, and above it another, shifted up
 
@@ -83,4 +90,4 @@ module _ (x y o : ℕ) (few : o < 8) (whole : x < 2 ^ 64) where
       let back : 8 - left ≡ o = omega arith in
       ap (λ (z : ℕ). bytesIn 8 (x / 2 ^ (8 * o) + z)) shifted-up
       ∙ bytes-append left 8 (x / 2 ^ (8 * o)) (y % 2 ^ (8 * o)) (omega arith) shifted-down
-      ∙ ap₂ (λ (u v : List ℕ). u ++ v) (sym (bytes-drop o 8 x (omega arith))) (ap (λ (k : ℕ). bytesIn k (y % 2 ^ (8 * o))) back ∙ sym (bytes-take o 8 y (omega arith)))
+      ∙ ap₂ (λ (u v : List ℕ). u ++ v) (sym (bytes-drop o 8 x (omega arith))) (ap (λ (k : ℕ). bytesIn k (y % 2 ^ (8 * o))) back ∙ bytes-low o y ∙ sym (bytes-take o 8 y (omega arith)))

@@ -2,8 +2,12 @@
 ghost use mathlib.Core.Path.{_≡_};
 ghost use Prim.Native.Nat.{_<_};
 ghost use Rattle.registers.specs.Record.{recordOf};
+ghost use Rattle.calls.specs.declared.Kind.the-variants.{Uncorrectable, NoBank};
+ghost use Rattle.calls.specs.CodeOutcomes.{kindBy};
 ghost use Rattle.error_registers.specs.Errors.{bitSet, undetected, withErrorAddress, detected, triggered, counted, reported};
-use calls::Kind;
+use calls::CLEAN;
+use calls::NO_BANK;
+use calls::UNCORRECTABLE;
 use registers::Registers;
 
 fn is_set(registers: &[u8; 256], offset: u8, bit: u8) -> bool
@@ -65,24 +69,37 @@ fn count(registers: &mut [u8; 256], address: u32)
     }
 }
 
-// The record after an answer: the bytes that it changes are stored, and no others are touched (ERR-7).
-pub fn report(registers: &mut [u8; 256], kind: Kind, address: u32)
-    ensures { λ _. ⌜ now (registers .exit) ≡ reported kind address (recordOf (now (registers .entry))) .bytes ⌝ }
+// ERR-4: "uncorrectable".
+fn report_uncorrectable(registers: &mut [u8; 256], address: u32)
+    ensures { λ _. ⌜ now (registers .exit) ≡ reported Uncorrectable address (recordOf (now (registers .entry))) .bytes ⌝ }
 {
-    match kind {
-        Kind::Clean => {}
-        Kind::Corrected(_) => count(registers, address),
-        Kind::Uncorrectable => {
-            if is_set(registers, Registers::ERROR_ENABLE_2, 3) {
-                detect(registers, Registers::ERROR_DETECTION_2, 3, address);
-            }
-        }
-        Kind::Stored => {}
-        Kind::NoBank => {
-            if is_set(registers, Registers::ERROR_ENABLE_1, 5) {
-                detect(registers, Registers::ERROR_DETECTION_1, 5, address);
-            }
-        }
-        Kind::Flipped => {}
+    if is_set(registers, Registers::ERROR_ENABLE_2, 3) {
+        detect(registers, Registers::ERROR_DETECTION_2, 3, address);
+    }
+}
+
+// ERR-3: "no bank".
+fn report_no_bank(registers: &mut [u8; 256], address: u32)
+    ensures { λ _. ⌜ now (registers .exit) ≡ reported NoBank address (recordOf (now (registers .entry))) .bytes ⌝ }
+{
+    if is_set(registers, Registers::ERROR_ENABLE_1, 5) {
+        detect(registers, Registers::ERROR_DETECTION_1, 5, address);
+    }
+}
+
+// The record after an outcome: the bytes that it changes are stored, and no others are touched (ERR-7).
+pub fn report(registers: &mut [u8; 256], outcome: u8, address: u32)
+    ensures { λ _. ⌜ now (registers .exit) ≡ reported (kindBy outcome) address (recordOf (now (registers .entry))) .bytes ⌝ }
+{
+    if outcome < CLEAN {
+        count(registers, address);
+        return;
+    }
+    if outcome == UNCORRECTABLE {
+        report_uncorrectable(registers, address);
+        return;
+    }
+    if outcome == NO_BANK {
+        report_no_bank(registers, address);
     }
 }

@@ -18,7 +18,7 @@ use Rattle.ecc.specs.Lending.{cellAt, putCell, isLent}
 use Rattle.error_registers.specs.Errors.{bitSet, undetected, withErrorAddress, detected, triggered, rose, counted, reported}
 use Rattle.calls.specs.declared.Kind.{Kind}
 use Rattle.calls.specs.declared.Kind.the-variants.{Clean, Corrected, Uncorrectable, Stored, NoBank, Flipped}
-use Rattle.calls.specs.Calls.{read, write, flip, scrub, burstRead, burstWrite, beatAddress, crosses, room, nextDoubleword, parts, Got, got, Given, Call, memory, readRegister, writeRegister}
+use Rattle.calls.specs.Calls.{read, write, flip, scrub, burstRead, burstWrite, beatAddress, crosses, room, nextDoubleword, parts, AccessAnswer, got, CallAnswer, Call, memory, readRegister, writeRegister}
 use Rattle.calls.specs.Spans.{Spans, byCount, byBit, byBurst, byArguments, bySpans, byCall, missed}
 use Rattle.calls.specs.State.{state}
 use Rattle.machine.specs.Cells.{merge, readCell, mergeCell, writeCell, scrubCell, onCell}
@@ -29,21 +29,21 @@ use Rattle.flat.specs.Comparison.{acceptedOf, flips, renews, anyOf}
 use Rattle.machine.proofs.LendingLaws.{reach}
 use Rattle.call_lists.proofs.LendingLaws.{reachOf, reachAll}
 use Rattle.flat.proofs.PremiseTests.{isAtErrorRegisters, allAtErrorRegisters, renewedBefore, eachRenewed, isSpaced}
-use Rattle.flat.proofs.Octets.{octet}
+use Rattle.flat.proofs.DoublewordBytes.{doublewordBytes}
 use Rattle.flat.proofs.Slips.{slipping, writeDropped, markCleared, correctedOnce, bitForgotten}
 use Rattle.flat.proofs.OneBank.{bankOff, bankOn}
 
 -- the answer of a call that consists of one access
-abbrev pub answered : Kind → List ℕ → Option Given
+abbrev pub answered : Kind → List ℕ → Option CallAnswer
 answered k bs = some (given (got k bs ∷ []))
 
-abbrev pub declinedWith : ℕ → Option Given
+abbrev pub declinedWith : ℕ → Option CallAnswer
 declinedWith n = some (refused (n ∷ []))
 
 -- ---- lists for the counterexamples
 
 -- a doubleword of zeros, read
-abbrev zeros : Kind → Got
+abbrev zeros : Kind → AccessAnswer
 zeros k = got k (replicate 8 0)
 
 abbrev pub readOnce : List Call
@@ -67,7 +67,7 @@ flippedTwice =
     ∷ []
 
 -- its answers, except the last
-abbrev pub flippedTwiceThen : Option Given → List (Option Given)
+abbrev pub flippedTwiceThen : Option CallAnswer → List (Option CallAnswer)
 flippedTwiceThen last =
     answered Clean []
     ∷ answered Flipped []
@@ -106,11 +106,11 @@ outside = 0x00100000
 abbrev line : List ℕ
 line = replicate 8 1 ++ replicate 8 2 ++ replicate 8 3 ++ replicate 8 4
 
-abbrev ones : Got
+abbrev ones : AccessAnswer
 ones = got NoBank (replicate 8 0xFF)
 
 -- each call beside its answer
-abbrev longSteps : List (Call × Option Given)
+abbrev longSteps : List (Call × Option CallAnswer)
 longSteps =
     (writeRegister 0xC0 0x24, none)
     ∷ (writeRegister 0xB9 2, none)
@@ -166,24 +166,24 @@ longSteps =
     ∷ (memory (burstRead outside 32), some (given (ones ∷ ones ∷ ones ∷ ones ∷ [])))
     ∷ []
 
-abbrev pub callsOf : List (Call × Option Given) → List Call
+abbrev pub callsOf : List (Call × Option CallAnswer) → List Call
 callsOf [] = []
 callsOf (s ∷ ss) = s .0 ∷ callsOf ss
 
-abbrev pub answersOf : List (Call × Option Given) → List (Option Given)
+abbrev pub answersOf : List (Call × Option CallAnswer) → List (Option CallAnswer)
 answersOf [] = []
 answersOf (s ∷ ss) = s .1 ∷ answersOf ss
 
 abbrev pub longList : List Call
 longList = callsOf longSteps
 
-abbrev pub longAnswers : List (Option Given)
+abbrev pub longAnswers : List (Option CallAnswer)
 longAnswers = answersOf longSteps
 
 abbrev pub spans : Spans
 spans = spansOf (setupOf bankOn)
 
-abbrev cellsAnswer : List ℕ → List Call → List (Option Given)
+abbrev cellsAnswer : List ℕ → List Call → List (Option CallAnswer)
 cellsAnswer cells cs = run columns (state bankOn cells) cs .0
 
 abbrev Reached : List ℕ → List Call → Type 0
@@ -236,7 +236,7 @@ unfolding bankOff bankOn startOf lastOf enabledOf rowCode megabytes rowBits fits
     maskOf flipBit encode rightBy cellReading loadOf cellAt putCell isLent bitSet undetected withErrorAddress detected triggered rose counted reported beatAddress crosses
     room nextDoubleword parts byCount byBit byBurst byArguments bySpans byCall missed merge readCell mergeCell writeCell scrubCell onCell unlentAt unlent refusal onTarget accessAt access accesses
     performed memoryCall call run blank withBytes withMark flatInSpan flatAccess flatAccesses flatPerformed flatCall flatRun acceptedOf flips renews anyOf
-    reach reachOf reachAll slipping octet isAtErrorRegisters allAtErrorRegisters renewedBefore eachRenewed isSpaced
+    reach reachOf reachAll slipping doublewordBytes isAtErrorRegisters allAtErrorRegisters renewedBefore eachRenewed isSpaced
 computed =
     record {
       once-spaced = refl;

@@ -15,7 +15,7 @@ use Rattle.banks.specs.Map.{cellCount}
 use Rattle.ecc.specs.Columns.{accepted}
 use Rattle.calls.specs.declared.Kind.{Kind}
 use Rattle.calls.specs.declared.Kind.the-variants.{Clean, Corrected, Uncorrectable, Stored, NoBank, Flipped}
-use Rattle.calls.specs.Calls.{MemoryCall, Access, readIn, writeIn, flipIn, scrubIn, addressOf, parts, Got, Given, Call, memory, readRegister, writeRegister}
+use Rattle.calls.specs.Calls.{MemoryCall, Access, readIn, writeIn, flipIn, scrubIn, addressOf, parts, AccessAnswer, CallAnswer, Call, memory, readRegister, writeRegister}
 use Rattle.calls.specs.Spans.{Spans, byCall, missed}
 use Rattle.calls.specs.State.{state}
 use Rattle.machine.specs.Calls.{spansOf}
@@ -34,7 +34,7 @@ isUncorrectable Stored = false
 isUncorrectable NoBank = false
 isUncorrectable Flipped = false
 
-abbrev pub Certain : Option Given → Type 0
+abbrev pub Certain : Option CallAnswer → Type 0
 Certain none = Unit {0}
 Certain (some (refused n)) = Unit {0}
 Certain (some (given gs)) = All (λ g. isUncorrectable (g .kind) ≡ false) gs
@@ -134,7 +134,7 @@ place-of spans (d ∷ cs) f zero c e = let z : d ≡ c = cc in rw z
 place-of spans (d ∷ cs) f (suc i) c e = place-of spans cs (flatCall spans f d .1) i c e
 
 -- of each access of a call
-abbrev pub correctedBits : List Got → List (Option ℕ)
+abbrev pub correctedBits : List AccessAnswer → List (Option ℕ)
 correctedBits [] = []
 correctedBits (g ∷ gs) = correctedBit (g .kind) ∷ correctedBits gs
 
@@ -147,18 +147,18 @@ unfolding flatAccesses
 accesses-corrected spans [] f = refl
 accesses-corrected spans (x ∷ xs) f = ap₂ {C = List (Option ℕ)} _∷_ (access-corrected spans f x) (accesses-corrected spans xs (flatAccess spans f x .1))
 
-call-got : (spans : Spans) (f : Flat) (c : MemoryCall) (gs : List Got) → flatCall spans f (memory c) .0 ≡ some (given gs) → gs ≡ flatAccesses spans f (parts c) .0
+call-got : (spans : Spans) (f : Flat) (c : MemoryCall) (gs : List AccessAnswer) → flatCall spans f (memory c) .0 ≡ some (given gs) → gs ≡ flatAccesses spans f (parts c) .0
 unfolding flatCall flatPerformed
 call-got spans f c gs e = go (byCall spans c) e
   where
-    go : (d : Declined) → _≡_ {A = Option Given} (some (flatPerformed d spans f (parts c) .0)) (some (given gs)) → gs ≡ flatAccesses spans f (parts c) .0
+    go : (d : Declined) → _≡_ {A = Option CallAnswer} (some (flatPerformed d spans f (parts c) .0)) (some (given gs)) → gs ≡ flatAccesses spans f (parts c) .0
     go none h = cc
     go (some n) h = let z : _≡_ {A = ℕ} 0 1 = cc in absurd (omega arith)
 
 module _ (cols : List ℕ) (good : accepted cols ≡ true) (r : Registers) (w : SwitchedOn r)
     (lent : ℕ) (h : 9 * cellCount (setupOf r) ≤ lent)
     (cs : List Call) (p : All AtErrorRegisters cs) (sp : Spaced (spansOf (setupOf r)) cs) where
-  abbrev answers : List (Option Given)
+  abbrev answers : List (Option CallAnswer)
   answers = run cols (state r (replicate lent 0)) cs .0
 
   same : answers ≡ flatRun (spansOf (setupOf r)) blank cs .0
@@ -170,7 +170,7 @@ module _ (cols : List ℕ) (good : accepted cols ≡ true) (r : Registers) (w : 
 
   -- c is the memory call at place i of the list, and gs what its accesses give: each is "corrected" exactly if a mark is set after the i
   -- calls before it and the accesses before it, and the bit is that of the mark
-  pub corrected-where-marked : (i : ℕ) (c : MemoryCall) (gs : List Got) → getElem? cs i ≡ some (memory c) → getElem? answers i ≡ some (some (given gs))
+  pub corrected-where-marked : (i : ℕ) (c : MemoryCall) (gs : List AccessAnswer) → getElem? cs i ≡ some (memory c) → getElem? answers i ≡ some (some (given gs))
       → correctedBits gs ≡ marksMet (spansOf (setupOf r)) (flatRun (spansOf (setupOf r)) blank (take i cs) .1) (parts c)
   corrected-where-marked i c gs e a =
       let spans = spansOf (setupOf r) in

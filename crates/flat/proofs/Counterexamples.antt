@@ -15,7 +15,7 @@ use Rattle.banks.specs.Map.{cellCount}
 use Rattle.ecc.specs.Columns.{columns}
 use Rattle.calls.specs.declared.Kind.{Kind}
 use Rattle.calls.specs.declared.Kind.the-variants.{Corrected, Flipped}
-use Rattle.calls.specs.Calls.{Given, Call}
+use Rattle.calls.specs.Calls.{CallAnswer, Call}
 use Rattle.calls.specs.Spans.{Spans}
 use Rattle.calls.specs.State.{State, state}
 use Rattle.machine.specs.Calls.{setup, spansOf}
@@ -35,27 +35,27 @@ SameAnswers st cs = run columns st cs .0 ≡ flatRun (spansOf (setup st)) blank 
 
 -- ---- two lists of answers that differ
 
-differ : {A : Type 0} {xs ys us vs : List (Option Given)} → xs ≡ us → ys ≡ vs → xs ≡ ys → (us ≡ vs → A) → A
+differ : {A : Type 0} {xs ys us vs : List (Option CallAnswer)} → xs ≡ us → ys ≡ vs → xs ≡ ys → (us ≡ vs → A) → A
 differ p q e f = f (sym p ∙ e ∙ q)
 
 -- the kind and the bytes of the answer at place i
-abbrev kindIn : Option Given → Option Kind
+abbrev kindIn : Option CallAnswer → Option Kind
 kindIn none = none
 kindIn (some (refused n)) = none
 kindIn (some (given [])) = none
 kindIn (some (given (g ∷ gs))) = some (g .kind)
 
-abbrev bytesIn : Option Given → List ℕ
+abbrev bytesIn : Option CallAnswer → List ℕ
 bytesIn none = []
 bytesIn (some (refused n)) = []
 bytesIn (some (given [])) = []
 bytesIn (some (given (g ∷ gs))) = g .bytes
 
-kind-at : {xs ys : List (Option Given)} (i : ℕ) → xs ≡ ys → kindIn (getD xs i none) ≡ kindIn (getD ys i none)
-kind-at i e = ap (λ (zs : List (Option Given)). kindIn (getD zs i none)) e
+kind-at : {xs ys : List (Option CallAnswer)} (i : ℕ) → xs ≡ ys → kindIn (getD xs i none) ≡ kindIn (getD ys i none)
+kind-at i e = ap (λ (zs : List (Option CallAnswer)). kindIn (getD zs i none)) e
 
-bytes-at : {xs ys : List (Option Given)} (i : ℕ) → xs ≡ ys → bytesIn (getD xs i none) ≡ bytesIn (getD ys i none)
-bytes-at i e = ap (λ (zs : List (Option Given)). bytesIn (getD zs i none)) e
+bytes-at : {xs ys : List (Option CallAnswer)} (i : ℕ) → xs ≡ ys → bytesIn (getD xs i none) ≡ bytesIn (getD ys i none)
+bytes-at i e = ap (λ (zs : List (Option CallAnswer)). bytesIn (getD zs i none)) e
 
 never : _≡_ {A = ℕ} 0 1 → ⊥
 never e = absurd (omega arith)
@@ -68,7 +68,7 @@ on-enough : 9 * cellCount (setupOf bankOn) ≤ enough
 on-enough = rw bytes-on (omega arith)
 
 -- enough lent zeros give the answers that were computed with the first n of them
-lent-enough : {us : List (Option Given)} (n : ℕ) → n ≤ enough → (cs : List Call) → reachAll columns (state bankOn (replicate n 0)) cs ≡ true
+lent-enough : {us : List (Option CallAnswer)} (n : ℕ) → n ≤ enough → (cs : List Call) → reachAll columns (state bankOn (replicate n 0)) cs ≡ true
     → run columns (state bankOn (replicate n 0)) cs .0 ≡ us → run columns (state bankOn (replicate enough 0)) cs .0 ≡ us
 lent-enough n h cs t e = run-zeros columns bankOn cs n enough h t ∙ e
 
@@ -129,7 +129,7 @@ lent-cells-needed claim =
 -- ---- flat machines that slip
 
 -- the statement with another machine in place of the flat one
-abbrev pub ComparedWith : (Spans → List Call → List (Option Given)) → Type 0
+abbrev pub ComparedWith : (Spans → List Call → List (Option CallAnswer)) → Type 0
 ComparedWith machine =
     (r : Registers) → SwitchedOn r → (lent : ℕ) → 9 * cellCount (setupOf r) ≤ lent → (cs : List Call) → All AtErrorRegisters cs
     → Spaced (spansOf (setupOf r)) cs → run columns (state r (replicate lent 0)) cs .0 ≡ machine (spansOf (setupOf r)) cs

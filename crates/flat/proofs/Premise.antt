@@ -150,8 +150,8 @@ module _ (spans : Spans) (steady : (a b : ℕ) → a / 8 ≡ b / 8 → spans .ho
       go true e = rw (eqb-true q (a / 8) e) hv
       go false e = hm q (λ p. eqb-false q (a / 8) e (sym p))
 
-  holds-alike : (a q : ℕ) → a / 8 ≡ q → spans .holds a ≡ spans .holds (8 * q)
-  holds-alike a q e = steady a (8 * q) (omega arith)
+  holds-agrees : (a q : ℕ) → a / 8 ≡ q → spans .holds a ≡ spans .holds (8 * q)
+  holds-agrees a q e = steady a (8 * q) (omega arith)
 
   other : (a q : ℕ) → (a / 8 ≡ q → ⊥) → eqb (a / 8) q ≡ false
   other a q ne = byCases (eqb (a / 8) q) (λ t. absurd (ne (eqb-true (a / 8) q t))) (λ t. t)
@@ -164,15 +164,15 @@ module _ (spans : Spans) (steady : (a b : ℕ) → a / 8 ≡ b / 8 → spans .ho
   due-in-span f (writeIn a bs) xs t s d = mark-due (f .mark) none a xs tt (λ q ne. due-tail spans (f .mark q) q (writeIn a bs) xs (λ w. other a q ne) (d q))
   due-in-span f (scrubIn a) xs t s d = mark-due (f .mark) none a xs tt (λ q ne. due-tail spans (f .mark q) q (scrubIn a) xs (λ w. other a q ne) (d q))
   due-in-span f (flipIn a b) xs t s d =
-      mark-due (f .mark) (some b) a xs (sym (holds-alike a (a / 8) refl) ∙ t, s .0 (a / 8) (eq-eqb (a / 8) (a / 8) refl))
+      mark-due (f .mark) (some b) a xs (sym (holds-agrees a (a / 8) refl) ∙ t, s .0 (a / 8) (eq-eqb (a / 8) (a / 8) refl))
       (λ q ne. due-tail spans (f .mark q) q (flipIn a b) xs (λ w. refl) (d q))
 
   outside-renews-none : (x : Access) (q : ℕ) → spans .holds (addressOf x) ≡ false → spans .holds (8 * q) ≡ true → renews q x ≡ false
   unfolding renews
   outside-renews-none (readIn a n) q h y = refl
-  outside-renews-none (writeIn a bs) q h y = other a q (λ e. contra (holds-alike a q e ∙ y) h)
+  outside-renews-none (writeIn a bs) q h y = other a q (λ e. contra (holds-agrees a q e ∙ y) h)
   outside-renews-none (flipIn a b) q h y = refl
-  outside-renews-none (scrubIn a) q h y = other a q (λ e. contra (holds-alike a q e ∙ y) h)
+  outside-renews-none (scrubIn a) q h y = other a q (λ e. contra (holds-agrees a q e ∙ y) h)
 
   due-next : (f : Flat) (x : Access) (xs : List Access) → Apart (x ∷ xs) → ((q : ℕ) → Due spans (f .mark q) q (x ∷ xs))
       → (q : ℕ) → Due spans (flatAccess spans f x .1 .mark q) q xs

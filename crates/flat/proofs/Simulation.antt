@@ -17,7 +17,7 @@ use Rattle.ecc.specs.Cell.{encode}
 use Rattle.ecc.specs.Lending.{cellAt, isLent}
 use Rattle.ecc.proofs.Laws.{encode-zeros}
 use Rattle.ecc.proofs.CellLaws.{fits-lent, put-same, put-other, cell-zeros}
-use Rattle.calls.specs.Calls.{Access, addressOf, Got}
+use Rattle.calls.specs.Calls.{Access, addressOf, AccessAnswer}
 use Rattle.calls.specs.Spans.{missed}
 use Rattle.calls.proofs.PartLaws.{Fits}
 use Rattle.calls.specs.State.{State, state}
@@ -25,7 +25,7 @@ use Rattle.error_registers.specs.Errors.{reported}
 use Rattle.machine.specs.Cells.{onCell}
 use Rattle.machine.specs.Calls.{spansOf, putAt, onTarget, access, accessAt}
 use Rattle.flat.specs.Flat.{Flat, flatInSpan, flatAccess, blank}
-use Rattle.flat.proofs.Octets.{octet, octet-length, octet-zero}
+use Rattle.flat.proofs.DoublewordBytes.{doublewordBytes, doubleword-bytes-length, doubleword-bytes-zero}
 use Rattle.flat.proofs.Doubleword.{FindsNoMark, MarksBelow72, marks-below, Untouched, others-untouched, coded, coded-length, StandsFor, Agree, agree}
 use Rattle.machine.proofs.SetupLaws.{setup-reported}
 use Rattle.machine.proofs.StoredLaws.{after, put-at-length}
@@ -58,7 +58,7 @@ module _ (cols : List ℕ) (good : accepted cols ≡ true) (s : Setup) (map : Ma
         marks = λ q. tt;
         stored = λ a k i.
             let w : k < cellCount s = map .within a k i in
-            cell-zeros n k (omega arith) ∙ sym (ap (encode cols) (octet-zero (a / 8)) ∙ encode-zeros cols);
+            cell-zeros n k (omega arith) ∙ sym (ap (encode cols) (doubleword-bytes-zero (a / 8)) ∙ encode-zeros cols);
       }
 
   pub is-lent : (st : State) (f : Flat) → InStep st f → (a k : ℕ) → cellOf s a ≡ some k → isLent (st .cells) k ≡ true
@@ -84,7 +84,7 @@ module _ (cols : List ℕ) (good : accepted cols ≡ true) (s : Setup) (map : Ma
     nine-bytes : length (after new old) ≡ 9
     nine-bytes =
         ap length (agreed .stands)
-        ∙ coded-length cols good (flat-after .mark (addressOf x / 8)) (octet (flat-after .byte) (addressOf x / 8)) (octet-length (flat-after .byte) (addressOf x / 8))
+        ∙ coded-length cols good (flat-after .mark (addressOf x / 8)) (doublewordBytes (flat-after .byte) (addressOf x / 8)) (doubleword-bytes-length (flat-after .byte) (addressOf x / 8))
 
     all-stored : (a j : ℕ) → cellOf s a ≡ some j → StandsFor cols good flat-after (a / 8) (cellAt (putAt new (st .cells) k) j)
     all-stored a j ij = go (ℕ-discrete (a / 8) (addressOf x / 8))
@@ -109,14 +109,14 @@ module _ (cols : List ℕ) (good : accepted cols ≡ true) (s : Setup) (map : Ma
         }
 
   -- what the two give at an access, and that they stay in step
-  pub record Alike (p : Got × State) (q : Got × Flat) : Type 0 where
+  pub record Alike (p : AccessAnswer × State) (q : AccessAnswer × Flat) : Type 0 where
     pub answer : p .0 ≡ q .0
     pub next : InStep (p .1) (q .1)
 
-  pub access-alike : (st : State) (f : Flat) → InStep st f → (x : Access) → Fits x → FindsNoMark f x
+  pub access-agrees : (st : State) (f : Flat) → InStep st f → (x : Access) → Fits x → FindsNoMark f x
       → Alike (access cols st x) (flatAccess (spansOf s) f x)
   unfolding access accessAt onTarget flatAccess
-  access-alike st f m x r fr = rw (m .unchanged, map .spanned (addressOf x)) (go (cellOf s (addressOf x)) refl)
+  access-agrees st f m x r fr = rw (m .unchanged, map .spanned (addressOf x)) (go (cellOf s (addressOf x)) refl)
     where
       go : (o : Option ℕ) → cellOf s (addressOf x) ≡ o → Alike (accessAt cols o st x) (cond (isSome o) (flatInSpan f x) (missed x, f))
       go none i =

@@ -4,16 +4,16 @@ use mathlib.Core.Path.{_≡_, refl, ap}
 use mathlib.Core.Option.{Option, none, some}
 use mathlib.Core.List.{List, [], _∷_}
 use Rattle.ecc.specs.CheckCode.{flipBit}
-use Rattle.calls.specs.Calls.{read, write, flip, scrub, burstRead, burstWrite, Given, Call, memory, readRegister, writeRegister}
+use Rattle.calls.specs.Calls.{read, write, flip, scrub, burstRead, burstWrite, CallAnswer, Call, memory, readRegister, writeRegister}
 use Rattle.calls.specs.Spans.{Spans}
 use Rattle.flat.specs.Flat.{Flat, withBytes, withMark, flatCall, flatRun}
-use Rattle.flat.proofs.Octets.{octet}
+use Rattle.flat.proofs.DoublewordBytes.{doublewordBytes}
 
 -- a slip, that is a mistake: what a call leaves in place of what it should, from the call and from what was there before
 abbrev pub Slip : Type 0
 Slip = Call → Flat → Flat → Flat
 
-unfoldable pub slipping : Slip → Spans → Flat → List Call → List (Option Given)
+unfoldable pub slipping : Slip → Spans → Flat → List Call → List (Option CallAnswer)
 slipping slip spans f [] = []
 slipping slip spans f (c ∷ cs) =
     let r = flatCall spans f c in
@@ -51,7 +51,7 @@ markCleared c before after = unmarked (readBy c) after
 -- only the first read corrects: after it the doubleword has the bytes as stored, with the marked bit inverted, and no mark
 abbrev pub asStored : (ℕ → ℕ) → ℕ → Option ℕ → ℕ → ℕ
 asStored f q none = f
-asStored f q (some b) = withBytes f (8 * q) (flipBit (octet f q) b)
+asStored f q (some b) = withBytes f (8 * q) (flipBit (doublewordBytes f q) b)
 
 abbrev pub storedBytes : Option ℕ → Flat → Flat
 storedBytes none f = f

@@ -8,12 +8,13 @@ use native.Mathlib.Omega.{arith}
 use lib.Bits.{bitAnd, bitOr, bitXor, and-le-r, and-block, or-block, xor-block, or-lt, xor-lt}
 use lib.Dec.{eqb, ltb}
 use lib.ListN.{length, getD}
-use borrow.Author.Tests.{eqb-true, eq-eqb, ltb-true, lt-ltb}
+use borrow.Author.Tests.{eqb-true, eqb-false, eq-eqb, ltb-true, lt-ltb}
 use Rattle.basics.specs.Range.{every}
 use Rattle.basics.proofs.RangeLaws.{byCases, every-at}
 use Rattle.eight_bytes.specs.CodeNumber.{bytesIn}
 use Rattle.eight_bytes.proofs.ByteLaws.{Bytes, number, same, eight-are}
-use Rattle.hex_digits.specs.Digits.{below, decimalDigit, hexDigit, hexFrom}
+use Rattle.hex_digits.specs.Digits.{decimalDigit, hexDigit, hexFrom}
+use Rattle.hex_digits.specs.CodeDigits.{valueOr, below}
 
 -- the number of what f makes of each byte
 abbrev pub each : (ℕ → ℕ) → List ℕ → ℕ
@@ -234,12 +235,19 @@ module _ (x : ℕ) (room : x < 2 ^ 64) where
   pub values-fit : wrong ≡ 0 → n ≤ 0x0F0F0F0F0F0F0F0F
   values-fit e = rw n-is (each-small l (small e))
 
-  pub digits-some : wrong ≡ 0 → hexFrom 0 l ≡ below (2 ^ 32) (packed (n * 16 + n / 256))
+  pub digits-some : wrong ≡ 0 → hexFrom 0 l ≡ some (packed (n * 16 + n / 256))
   digits-some e =
       let s = small e in
       let v : (i : ℕ) → ℕ = λ i. value (getD l i 0) in
       let r = packed-is (v 0) (v 1) (v 2) (v 3) (v 4) (v 5) (v 6) (v 7) n (s .0) (s .1 .0) (s .1 .1 .0) (s .1 .1 .1 .0) (s .1 .1 .1 .1 .0) (s .1 .1 .1 .1 .1 .0) (s .1 .1 .1 .1 .1 .1 .0) (s .1 .1 .1 .1 .1 .1 .1 .0) (n-is ∙ omega arith) in
-      digits-all l 0 bytes (sym wrong-is ∙ e) ∙ rw (lt-ltb (packed (n * 16 + n / 256)) (2 ^ 32) (packed-lt (n * 16 + n / 256))) (ap some (sym r))
+      digits-all l 0 bytes (sym wrong-is ∙ e) ∙ ap some (sym r)
 
   pub digits-none : (wrong ≡ 0 → ⊥) → hexFrom 0 l ≡ none
   digits-none e = digits-not l 0 bytes (λ t. e (wrong-is ∙ t))
+
+  -- eight digits stay below 2^32, so that number tells them from bytes that are none
+  pub digits-below : hexFrom 0 l ≡ below (2 ^ 32) (valueOr (2 ^ 32) (hexFrom 0 l))
+  digits-below =
+      byCases (eqb wrong 0)
+      (λ t. rw (digits-some (eqb-true wrong 0 t), lt-ltb (packed (n * 16 + n / 256)) (2 ^ 32) (packed-lt (n * 16 + n / 256))))
+      (λ t. rw (digits-none (eqb-false wrong 0 t)))

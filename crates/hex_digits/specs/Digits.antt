@@ -11,10 +11,6 @@ abbrev pub onSome : {A B : Type 0} → Option A → (A → Option B) → Option 
 onSome none f = none
 onSome (some x) f = f x
 
--- r, if it is below k
-abbrev pub below : ℕ → ℕ → Option ℕ
-below k r = cond (ltb r k) (some r) none
-
 -- LINE-8: a digit 0 to 9
 unfoldable pub decimalDigit : ℕ → Option ℕ
 decimalDigit b = cond (leb 0x30 b && leb b 0x39) (some (b - 0x30)) none
@@ -32,7 +28,7 @@ hexFrom v (b ∷ bs) = onSome (hexDigit b) (λ d. hexFrom (16 * v + d) bs)
 unfoldable pub hexField : ℕ → List ℕ → Option ℕ
 hexField n bs = cond (eqb (length bs) n) (hexFrom 0 bs) none
 
--- LINE-8: one or two decimal digits without a leading zero, or a single 0
+-- LINE-8: a decimal number below 100, of which only zero itself begins with 0
 unfoldable pub decimalField : List ℕ → Option ℕ
 decimalField [] = none
 decimalField (a ∷ []) = decimalDigit a

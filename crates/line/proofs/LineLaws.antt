@@ -16,7 +16,7 @@ use Rattle.register_calls.specs.declared.RegisterRead.{RegisterRead}
 use Rattle.register_calls.specs.declared.Written.{Written}
 use Rattle.register_calls.specs.Calls.{readAt, writeAt, paperWritten, paperRegisterRead}
 use Rattle.calls.specs.declared.Answer.{Answer}
-use Rattle.calls.specs.Calls.{MemoryCall, read, flip, Given, Call, memory, readRegister, writeRegister}
+use Rattle.calls.specs.Calls.{MemoryCall, read, flip, CallAnswer, Call, memory, readRegister, writeRegister}
 use Rattle.calls.specs.Spans.{byCall, byArguments, byCount}
 use Rattle.calls.specs.State.{State, state}
 use Rattle.calls.specs.Answers.{Effect, paperAnswer, leaves, effectOf}
@@ -25,13 +25,14 @@ use Rattle.machine.specs.Calls.{setup, refusal, performed, memoryCall, called}
 use Rattle.machine.proofs.FlipLaws.{flip-call-keeps-registers}
 use Rattle.parser.specs.declared.request.Parsed.{Parsed}
 use Rattle.parser.specs.declared.request.Request.{Request}
-use Rattle.parser.specs.CodeParsed.{asked, meant}
+use Rattle.parser.specs.CodeParsed.{asked, parsedAs, meant}
 use Rattle.parser.specs.Format.{parse}
+use Rattle.parser.proofs.ParsedLaws.{parsed-means}
 use Rattle.print.specs.Output.{verdictText, registerWriteText, registerReadText, callText}
 use Rattle.print.specs.CodePrinted.{longestOutputLine, printInto, readLine}
 use Rattle.print.proofs.PrintLaws.{print-start, read-text, register-write-text}
 use Rattle.line.specs.Line.{Printed, printedEffect, callOf, orMalformed, lineOf}
-use Rattle.line.specs.CodePrinted.{LineEffect, printedInto, lineInto}
+use Rattle.line.specs.CodeLinePrinted.{LineEffect, printedInto, lineInto}
 
 -- ---- a memory call
 
@@ -40,7 +41,7 @@ any-buffer : (cols : List ℕ) (st : State) (c : MemoryCall) (b d : List ℕ) �
 unfolding called callText
 any-buffer cols st c b d = go (memoryCall cols st c)
   where
-    go : (x : Given × State) → printedEffect c (effectOf x b) ≡ printedEffect c (effectOf x d)
+    go : (x : CallAnswer × State) → printedEffect c (effectOf x b) ≡ printedEffect c (effectOf x d)
     go (refused n, s) = refl
     go (given gs, s) = refl
 
@@ -129,6 +130,11 @@ pub line-printed : (n : ℕ) (out out′ t : List ℕ) (st : State) (p : Printed
 line-printed n out out′ t st p room e f =
     ap (λ (x : ℕ × List ℕ). (x .0, x .1, st)) (e ∙ print-start t out room) ∙ ap (printedInto out) f
 
+-- what a request prints, once it is known which it is
+pub asked-line : (cols : List ℕ) (st : State) (out bs : List ℕ) (q r : Request) → q ≡ r
+    → printedInto out (orMalformed cols st (asked r bs)) ≡ printedInto out (orMalformed cols st (asked q bs))
+asked-line cols st out bs q r e = ap (λ (x : Request). printedInto out (orMalformed cols st (asked x bs))) (sym e)
+
 module _ (cols : List ℕ) (st : State) (line out : List ℕ) where
   pub room-printed : longestOutputLine ≤ length out → lineInto cols st line out ≡ printedInto out (lineOf cols st line)
   unfolding lineInto
@@ -138,10 +144,7 @@ module _ (cols : List ℕ) (st : State) (line out : List ℕ) where
   unfolding lineInto
   no-room h = rw (lt-leb longestOutputLine (length out) h)
 
-  -- what a line asks for, from the request that the code found
-  pub asked-line : (p : Parsed) (q : Request) → longestOutputLine ≤ length out → meant p ≡ parse line → p .request ≡ q
-      → printedInto out (orMalformed cols st (asked q (take (p .count) (p .bytes)))) ≡ lineInto cols st line out
+  -- what a line asks for, from what the code parsed
+  pub parsed-line : (p : Parsed) → longestOutputLine ≤ length out → p ≡ parsedAs (parse line) → printedInto out (orMalformed cols st (meant p)) ≡ lineInto cols st line out
   unfolding lineOf
-  asked-line p q h e f =
-      let o : asked q (take (p .count) (p .bytes)) ≡ parse line = sym (ap (λ (x : Request). asked x (take (p .count) (p .bytes))) f) ∙ e in
-      ap (λ (c : Option Call). printedInto out (orMalformed cols st c)) o ∙ sym (room-printed h)
+  parsed-line p h e = ap (λ (c : Option Call). printedInto out (orMalformed cols st c)) (ap meant e ∙ parsed-means line) ∙ sym (room-printed h)

@@ -9,20 +9,16 @@ ghost use Rattle.ecc.specs.Columns.{columns};
 ghost use Rattle.calls.specs.Calls.{read, write, flip, scrub, memory, readRegister, writeRegister};
 ghost use Rattle.registers.specs.Record.{recordOf};
 ghost use Rattle.calls.specs.State.{state};
-ghost use Rattle.print.specs.CodePrinted.{longestOutputLine};
-ghost use Rattle.line.specs.Line.{callOf};
-ghost use Rattle.line.specs.CodePrinted.{executed, executedInPlace, printedInto, lineInto};
+ghost use Rattle.parser.specs.CodeParsed.{asked};
+ghost use Rattle.print.specs.Output.{malformedText};
+ghost use Rattle.print.specs.CodePrinted.{longestOutputLine, atStart};
+ghost use Rattle.line.specs.Line.{callOf, orMalformed};
+ghost use Rattle.line.specs.CodeLinePrinted.{executedInPlace, printedInto, lineInto};
 use parser::Request;
 use print::LONGEST_OUTPUT_LINE;
 use refusals::Refusal;
 use refusals::Verdict;
 use registers::Registers;
-
-// The record after a line, and how many bytes the line printed.
-pub struct Executed {
-    pub registers: Registers,
-    pub printed: usize,
-}
 
 // `c`
 fn register_write_line(registers: &mut [u8; 256], offset: u8, value: u8, out: &mut [u8]) -> usize
@@ -34,7 +30,7 @@ fn register_write_line(registers: &mut [u8; 256], offset: u8, value: u8, out: &m
     let after = written.registers;
     let kept = after.bytes;
     *registers = kept;
-    print::verdict_line(0x63, verdict, out)
+    print::verdict_line(b'c', verdict, out)
 }
 
 // `g`
@@ -64,7 +60,7 @@ fn write_line(
     let after = called.registers;
     let kept = after.bytes;
     *registers = kept;
-    print::kinds(0x77, answer, out)
+    print::kinds(b'w', answer, out)
 }
 
 // `f`, which touches no register: the record that comes back need not be kept.
@@ -81,7 +77,7 @@ fn flip_line(
     let called = memory_calls::flip(Registers { bytes: *registers }, cells, address, bit as u32);
     let answer = called.answer;
     let verdict = answer.verdict;
-    print::verdict_line(0x66, verdict, out)
+    print::verdict_line(b'f', verdict, out)
 }
 
 // `s`
@@ -94,7 +90,7 @@ fn scrub_line(registers: &mut [u8; 256], cells: &mut [u8], address: u32, out: &m
     let after = called.registers;
     let kept = after.bytes;
     *registers = kept;
-    print::kinds(0x73, answer, out)
+    print::kinds(b's', answer, out)
 }
 
 // The length of the buffer for a read: one of more than 8 bytes is refused in the same way as one of 9.
@@ -130,7 +126,38 @@ fn read_line(
     print::read(answer, &buffer[..n], out)
 }
 
-// LINE-10: executes one line, given without its LF, over a lent record. Nothing is done if the output has no room for the longest line.
+// LINE-11: a line that asks for nothing.
+fn malformed_line(out: &mut [u8]) -> usize
+    requires { ⌜ longestOutputLine ≤ length (now out) ⌝ }
+    ensures { λ n. ⌜ (n, now (out .exit)) ≡ atStart malformedText (now (out .entry)) ⌝ }
+{
+    print::verdict_line(b'?', Verdict::Refused(Refusal::MalformedLine), out)
+}
+
+// What a request asks for, with the bytes of a write.
+fn request_line(
+    registers: &mut [u8; 256],
+    cells: &mut [u8],
+    request: Request,
+    bytes: &[u8],
+    out: &mut [u8],
+) -> usize
+    requires { ⌜ longestOutputLine ≤ length (now out) ⌝ }
+    ensures { λ n. ⌜ executedInPlace n (now (registers .exit)) (now (cells .exit)) (now (out .exit)) ≡ printedInto (now (out .entry)) (orMalformed columns (state (recordOf (now (registers .entry))) (now (cells .entry))) (asked request (now (bytes .entry)))) ⌝ }
+{
+    match request {
+        Request::Malformed => malformed_line(out),
+        Request::WriteRegister(offset, value) => register_write_line(registers, offset, value, out),
+        Request::ReadRegister(offset) => register_read_line(registers, offset, out),
+        Request::Write(address) => write_line(registers, cells, address, bytes, out),
+        Request::Read(address, count) => read_line(registers, cells, address, count, out),
+        Request::Flip(address, bit) => flip_line(registers, cells, address, bit, out),
+        Request::Scrub(address) => scrub_line(registers, cells, address, out),
+    }
+}
+
+// LINE-10: executes one line, given without its LF, over the lent record and cells, and returns how many bytes it printed. Nothing is done if
+// the output has no room for the longest line.
 pub fn execute_in_place(
     registers: &mut [u8; 256],
     cells: &mut [u8],
@@ -144,31 +171,7 @@ pub fn execute_in_place(
     }
     let parsed = parser::parse(line);
     let request = parsed.request;
-    match request {
-        Request::Malformed => {
-            print::verdict_line(0x3f, Verdict::Refused(Refusal::MalformedLine), out)
-        }
-        Request::WriteRegister(offset, value) => register_write_line(registers, offset, value, out),
-        Request::ReadRegister(offset) => register_read_line(registers, offset, out),
-        Request::Write(address) => {
-            let bytes = parsed.bytes;
-            let n = parsed.count;
-            write_line(registers, cells, address, &bytes[..n], out)
-        }
-        Request::Read(address, count) => read_line(registers, cells, address, count, out),
-        Request::Flip(address, bit) => flip_line(registers, cells, address, bit, out),
-        Request::Scrub(address) => scrub_line(registers, cells, address, out),
-    }
-}
-
-// The same with the record by value.
-pub fn execute(registers: Registers, cells: &mut [u8], line: &[u8], out: &mut [u8]) -> Executed
-    ensures { λ x. ⌜ executed x (now (cells .exit)) (now (out .exit)) ≡ lineInto columns (state registers (now (cells .entry))) (now (line .entry)) (now (out .entry)) ⌝ }
-{
-    let mut after = registers.bytes;
-    let n = execute_in_place(&mut after, cells, line, out);
-    Executed {
-        registers: Registers { bytes: after },
-        printed: n,
-    }
+    let bytes = parsed.bytes;
+    let n = parsed.count;
+    request_line(registers, cells, request, &bytes[..n], out)
 }

@@ -23,7 +23,7 @@ fn rest_end(chunk: &[u8], from: usize) -> usize
 {
     let mut i = from;
     while i < chunk.len() {
-        if chunk[i] == 0x0a {
+        if chunk[i] == b'\n' {
             return i;
         }
         i += 1;
@@ -31,7 +31,7 @@ fn rest_end(chunk: &[u8], from: usize) -> usize
     i
 }
 
-// The same, eight bytes at a time; nothing is looked for behind the end.
+// LINE-1: the index of the first LF from `from` on, or the length if there is none; eight bytes at a time. From behind the end on, `from` itself.
 pub fn line_end(chunk: &[u8], from: usize) -> usize
     ensures { λ r. ⌜ r ≡ from + lineLength (drop from (now (chunk .entry))) ⌝ }
 {

@@ -1,31 +1,31 @@
 -- Laws of a step over a chunk: its lines, its output, what is carried.
 use mathlib.Core.Path.{_≡_, refl, sym, ap, subst, _∙_}
-use mathlib.Core.Bool.{Bool, true, false, cond}
+use mathlib.Core.Bool.{true, false, cond}
 use mathlib.Core.List.{List, [], _∷_, _++_, append-assoc, append-nil}
 use Prim.Native.Nat.{ℕ, zero, suc, _+_, _*_, _-_, _≤_, _<_}
 use native.Mathlib.Omega.{arith}
 use lib.Dec.{ltb, leb, eqb}
-use lib.ListN.{length, getD, set, replicate, take, drop, length-replicate, length-append, length-drop, drop-of-length-le, take-append-drop}
-use lib.Seq.{drop-cons, set-at, drop-drop, take-all, take-append-add, take-append-seam, drop-append-add, drop-append-seam, take-paste, length-take-le, paste}
+use lib.ListN.{length, getD, set, take, drop, length-replicate, length-append, length-drop, drop-of-length-le, take-append-drop}
+use lib.Seq.{drop-cons, set-at, drop-drop, take-all, take-append-add, take-append-seam, drop-append-add, drop-append-seam, length-take-le, paste, length-paste, take-paste, drop-paste}
 use borrow.Author.Tests.{eqb-true, ne-eqb, le-leb, lt-leb}
 use borrow.Rule.Slice.PartMut.{midOf, putMid}
 use Rattle.basics.proofs.RangeLaws.{byCases}
+use Rattle.parser.proofs.PaddedLaws.{zeros, drop-zeros, zeros-later, padded-is}
 use Rattle.print.specs.CodePrinted.{longestOutputLine}
 use Rattle.print.proofs.PrintLaws.{least-le, take-least}
 use Rattle.line.specs.Line.{Printed, lineOf}
-use Rattle.calls.specs.State.{State}
+use Rattle.calls.specs.State.{State, state}
 use Rattle.lines.specs.Text.{mostCarried, Fed, carrying, fedByte, fed, after, ended}
-use Rattle.line.specs.CodePrinted.{LineEffect, printedInto, lineInto}
+use Rattle.line.specs.CodeLinePrinted.{LineEffect, printedInto, lineInto}
 use Rattle.line_ends.specs.LineEnd.{lineLength}
-use Rattle.lines.specs.CodeStepped.{Appended, Reached, LinesReached, stepOf, endInto}
+use Rattle.lines.specs.declared.buffers.Carry.{Carry}
+use Rattle.lines.specs.declared.feed.Kept.{Kept}
+use Rattle.lines.specs.CodeStepped.{carriedOf, keptOf, carryOf, keptAs, Appended, Reached, LinesReached, StepEffect, stepOf, endInto}
 use Rattle.line.proofs.LineLaws.{room-printed}
 use Rattle.line.proofs.LengthLaws.{line-few}
 use Rattle.lines.proofs.TextLaws.{line-take, fed-line, fed-plain}
 
 -- ---- bytes cleared one after the other
-
-abbrev pub zeros : ℕ → List ℕ
-zeros n = replicate n 0
 
 zeros-next : (i : ℕ) (l : List ℕ) → zeros i ++ 0 ∷ l ≡ zeros (suc i) ++ l
 zeros-next zero l = refl
@@ -38,19 +38,58 @@ clear-next l i h =
 
 -- ---- what is carried
 
-pub extended-is : (bytes part : List ℕ) (len n more : ℕ) → length bytes ≡ mostCarried → n ≡ cond (ltb len mostCarried) len mostCarried
-    → more ≡ cond (ltb (mostCarried - n) (length part)) (mostCarried - n) (length part) → take (n + more) (paste bytes n part more) ≡ take mostCarried (take len bytes ++ part)
-extended-is bytes part len n more h e f =
+abbrev kept : List ℕ → ℕ → List ℕ → List ℕ
+kept start len part = take mostCarried (take len start ++ part)
+
+-- as many bytes of each as there is room for
+kept-is : (start part : List ℕ) (len n more : ℕ) → length start ≡ mostCarried → n ≡ cond (ltb len mostCarried) len mostCarried
+    → more ≡ cond (ltb (mostCarried - n) (length part)) (mostCarried - n) (length part) → take n start ++ take more part ≡ kept start len part
+kept-is start part len n more h e f =
+    let l = least-le len mostCarried n e in
+    let s : n ≡ cond (ltb len (length start)) len (length start) = rw h e in
+    let k : length (take n start) ≡ n = length-take-le n start (omega arith) in
+    let w : mostCarried ≡ length (take n start) + (mostCarried - n) = omega arith in
+    ap (λ (l : List ℕ). take n start ++ l) (take-least (mostCarried - n) more part f)
+    ∙ sym (take-append-add (take n start) part (mostCarried - n))
+    ∙ ap (λ (m : ℕ). take m (take n start ++ part)) (sym w)
+    ∙ ap (λ (l : List ℕ). take mostCarried (l ++ part)) (take-least len n start s)
+
+-- bytes with zeros behind the first k, as they are carried
+carry-is : (k : ℕ) (bytes : List ℕ) → k ≤ length bytes → drop k bytes ≡ zeros (mostCarried - k) → _≡_ {A = Carry} (record { bytes = bytes; len = k }) (carryOf (take k bytes))
+unfolding carryOf
+carry-is k bytes h e =
+    let all = padded-is mostCarried k bytes h e in
+    let few : k ≡ length (take k bytes) = sym (length-take-le k bytes h) in
+    λ i. record { bytes = all i; len = few i }
+
+-- both copied over zeros, one behind the other
+pub joined-is : (start part : List ℕ) (len n more : ℕ) → length start ≡ mostCarried → n ≡ cond (ltb len mostCarried) len mostCarried
+    → more ≡ cond (ltb (mostCarried - n) (length part)) (mostCarried - n) (length part)
+    → _≡_ {A = Carry} (record { bytes = paste (paste (zeros mostCarried) 0 start n) n part more; len = n + more }) (carryOf (kept start len part))
+joined-is start part len n more h e f =
     let l = least-le len mostCarried n e in
     let m = least-le (mostCarried - n) (length part) more f in
-    let s : n ≡ cond (ltb len (length bytes)) len (length bytes) = rw h e in
-    let k : length (take n bytes) ≡ n = length-take-le n bytes (omega arith) in
-    let w : mostCarried ≡ length (take n bytes) + (mostCarried - n) = omega arith in
-    take-paste bytes n part more (omega arith) (m .1)
-    ∙ ap (λ (l : List ℕ). take n bytes ++ l) (take-least (mostCarried - n) more part f)
-    ∙ sym (take-append-add (take n bytes) part (mostCarried - n))
-    ∙ ap (λ (m : ℕ). take m (take n bytes ++ part)) (sym w)
-    ∙ ap (λ (l : List ℕ). take mostCarried (l ++ part)) (take-least len n bytes s)
+    let z : length (zeros mostCarried) ≡ mostCarried = length-replicate {A = ℕ} mostCarried 0 in
+    let first = paste (zeros mostCarried) 0 start n in
+    let size : length first ≡ mostCarried = length-paste (zeros mostCarried) 0 start n (omega arith) (omega arith) ∙ z in
+    let none : 0 + n ≡ n = omega arith in
+    let behind : drop n first ≡ zeros (mostCarried - n) = ap (λ (m : ℕ). drop m first) (sym none) ∙ drop-paste (zeros mostCarried) 0 start n (omega arith) (omega arith) ∙ drop-zeros (0 + n) mostCarried ∙ ap (λ (m : ℕ). zeros (mostCarried - m)) none in
+    let both = paste first n part more in
+    let size₂ : length both ≡ mostCarried = length-paste first n part more (omega arith) (m .1) ∙ size in
+    let behind₂ : drop (n + more) both ≡ zeros (mostCarried - (n + more)) = drop-paste first n part more (omega arith) (m .1) ∙ zeros-later mostCarried n (n + more) first (omega arith) behind in
+    carry-is (n + more) both (omega arith) behind₂
+    ∙ ap carryOf (take-paste first n part more (omega arith) (m .1)
+    ∙ ap (λ (x : List ℕ). x ++ take more part) (ap (λ (m : ℕ). take m first) (sym none) ∙ take-paste (zeros mostCarried) 0 start n (omega arith) (omega arith))
+    ∙ kept-is start part len n more h e f)
+
+-- what is carried is what was put there
+pub carried-is : (x : Carry) (c : List ℕ) → x ≡ carryOf c → carriedOf x ≡ c
+unfolding carryOf
+carried-is x c e = ap carriedOf e ∙ take-append-seam c (zeros (mostCarried - length c))
+
+pub carry-fits : (x : Carry) (c : List ℕ) → x ≡ carryOf c → x .len ≤ length (x .bytes)
+unfolding carryOf
+carry-fits x c e = rw e (simp length-append (omega arith))
 
 -- ---- what is put out from a place on
 
@@ -232,10 +271,15 @@ ended-line cols st [] h = absurd (omega arith)
 ended-line cols st (b ∷ l) h = refl
 
 -- the end of the input: with a byte carried it is a step over an LF, and with none it is nothing
-pub end-step : (cols : List ℕ) (st : State) (l out : List ℕ) → 0 < length l
-    → (let s = stepOf cols (carrying st l) (0x0A ∷ []) out in _≡_ {A = LineEffect} (s .1, s .3, s .2 .state) (endInto cols st l out))
+abbrev pub leavesOf : StepEffect → LineEffect
+leavesOf s = (s .1, s .3, state (s .2 .0 .registers) (s .2 .1))
+
+pub end-step : (cols : List ℕ) (kept : Kept) (cells out : List ℕ) → 0 < length (carriedOf (kept .carry))
+    → leavesOf (stepOf cols kept cells (0x0A ∷ []) out) ≡ endInto cols (state (kept .registers) cells) (carriedOf (kept .carry)) out
 unfolding endInto stepOf fed fedByte
-end-step cols st l out h =
+end-step cols kept cells out h =
+    let st = state (kept .registers) cells in
+    let l = carriedOf (kept .carry) in
     let e = ended-line cols st l h in
     let n = append-nil (lineOf cols st l .0) in
     byCases (leb longestOutputLine (length out)) (λ t. rw (t, e, n)) (λ t. rw t)
@@ -246,41 +290,51 @@ end-none cols st out = byCases (leb longestOutputLine (length out)) (λ t. rw t)
 
 -- ---- a whole chunk
 
-module _ (cols : List ℕ) (f : Fed) (chunk out : List ℕ) where
+module _ (cols : List ℕ) (kept : Kept) (cells chunk out : List ℕ) where
   -- taken: what was printed stands at the start of the output
-  pub step-taken : longestOutputLine * length chunk ≤ length out → (n : ℕ) (g : Fed) (out₁ : List ℕ) → (take n out₁, g) ≡ fed cols f chunk → n ≤ length out₁ → drop n out₁ ≡ drop n out
-      → _≡_ {A = Bool × ℕ × Fed × List ℕ} (true, n, g, out₁) (stepOf cols f chunk out)
+  step-taken : longestOutputLine * length chunk ≤ length out → (n : ℕ) (g : Fed) (out₁ : List ℕ) → (take n out₁, g) ≡ fed cols (keptOf kept cells) chunk → n ≤ length out₁ → drop n out₁ ≡ drop n out
+      → _≡_ {A = StepEffect} (true, n, keptAs g, out₁) (stepOf cols kept cells chunk out)
   unfolding stepOf
   step-taken h n g out₁ e k d =
       let l : length (take n out₁) ≡ n = length-take-le n out₁ k in
       rw (le-leb (longestOutputLine * length chunk) (length out) h, ← e, l, ← d, take-append-drop n out₁)
 
-  pub step-refused : length out < longestOutputLine * length chunk → _≡_ {A = Bool × ℕ × Fed × List ℕ} (false, 0, f, out) (stepOf cols f chunk out)
+  pub step-refused : length out < longestOutputLine * length chunk → _≡_ {A = StepEffect} (false, 0, (kept, cells), out) (stepOf cols kept cells chunk out)
   unfolding stepOf
   step-refused h = rw (lt-leb (longestOutputLine * length chunk) (length out) h)
 
--- the two ways of a taken chunk: without an LF, and with one
-module _ (cols : List ℕ) (st : State) (c chunk out : List ℕ) (e : ℕ) (first : List ℕ) (room : longestOutputLine * length chunk ≤ length out)
-    (end : e ≡ 0 + lineLength (drop 0 chunk)) (few : length c ≤ mostCarried) (start : first ≡ take mostCarried (c ++ take e chunk)) where
-  pub step-plain : e ≡ length chunk → _≡_ {A = Bool × ℕ × Fed × List ℕ} (true, 0, carrying st first, out) (stepOf cols (carrying st c) chunk out)
-  step-plain h =
-      let all : take e chunk ≡ chunk = take-all e chunk (omega arith) in
-      step-taken cols (carrying st c) chunk out room 0 (carrying st first) out
-      (ap (λ (l : List ℕ). ([], carrying st l)) (start ∙ ap (λ (x : List ℕ). take mostCarried (c ++ x)) all)
-      ∙ sym (fed-plain cols st chunk c (omega arith) few))
-      (omega arith) refl
+  -- the two ways of a taken chunk: without an LF, and with one; `first` is what is carried with the bytes up to its first LF
+  module _ (e : ℕ) (room : longestOutputLine * length chunk ≤ length out) (end : e ≡ 0 + lineLength (drop 0 chunk))
+      (few : length (carriedOf (kept .carry)) ≤ mostCarried) where
+    abbrev c : List ℕ
+    c = carriedOf (kept .carry)
 
-  module _ (st₁ : State) (out₁ : List ℕ) (from at : ℕ) (rest : List ℕ)
-      (reached : Reached cols (carrying st c) chunk out (carrying st₁ []) from out₁ at)
-      (last : lineLength (drop from chunk) ≡ length chunk - from) (carried : rest ≡ take mostCarried (drop from chunk)) where
-    left-over : fed cols (carrying st₁ []) (drop from chunk) ≡ ([], carrying st₁ rest)
-    left-over =
-        let n : lineLength (drop from chunk) ≡ length (drop from chunk) = last ∙ sym (length-drop from chunk) in
-        fed-plain cols st₁ (drop from chunk) [] n (omega arith) ∙ rw carried
+    abbrev st : State
+    st = state (kept .registers) cells
 
-    pub step-lines : _≡_ {A = Bool × ℕ × Fed × List ℕ} (true, at, carrying st₁ rest, out₁) (stepOf cols (carrying st c) chunk out)
-    step-lines =
-        let size = reached .size in
-        let within = reached .room in
-        let all : (take at out₁, carrying st₁ rest) ≡ fed cols (carrying st c) chunk = rw (left-over, append-nil (take at out₁)) at (sym (reached .same)) in
-        step-taken cols (carrying st c) chunk out room at (carrying st₁ rest) out₁ all (omega arith) (reached .behind)
+    abbrev pub first : List ℕ
+    first = take mostCarried (c ++ take e chunk)
+
+    pub step-plain : e ≡ length chunk → _≡_ {A = StepEffect} (true, 0, keptAs (carrying st first), out) (stepOf cols kept cells chunk out)
+    step-plain h =
+        let all : take e chunk ≡ chunk = take-all e chunk (omega arith) in
+        step-taken room 0 (carrying st first) out
+        (ap (λ (x : List ℕ). ([], carrying st (take mostCarried (c ++ x)))) all ∙ sym (fed-plain cols st chunk c (omega arith) few))
+        (omega arith) refl
+
+    module _ (st₁ : State) (out₁ : List ℕ) (from at : ℕ) (reached : Reached cols (carrying st c) chunk out (carrying st₁ []) from out₁ at)
+        (last : lineLength (drop from chunk) ≡ length chunk - from) where
+      abbrev rest : List ℕ
+      rest = take mostCarried (drop from chunk)
+
+      left-over : fed cols (carrying st₁ []) (drop from chunk) ≡ ([], carrying st₁ rest)
+      left-over =
+          let n : lineLength (drop from chunk) ≡ length (drop from chunk) = last ∙ sym (length-drop from chunk) in
+          fed-plain cols st₁ (drop from chunk) [] n (omega arith)
+
+      pub step-lines : _≡_ {A = StepEffect} (true, at, keptAs (carrying st₁ rest), out₁) (stepOf cols kept cells chunk out)
+      step-lines =
+          let size = reached .size in
+          let within = reached .room in
+          let all : (take at out₁, carrying st₁ rest) ≡ fed cols (carrying st c) chunk = rw (left-over, append-nil (take at out₁)) at (sym (reached .same)) in
+          step-taken room at (carrying st₁ rest) out₁ all (omega arith) (reached .behind)

@@ -10,7 +10,9 @@ use Rattle.print.specs.CodePrinted.{longestOutputLine}
 use Rattle.lines.specs.declared.buffers.Carry.{Carry}
 use Rattle.lines.specs.declared.feed.Kept.{Kept}
 use Rattle.lines.specs.declared.feed.Stepped.{Stepped}
-use Rattle.line.specs.CodePrinted.{LineEffect, printedInto}
+use Rattle.lines.specs.declared.feed.Executed.{Executed}
+use Rattle.parser.specs.CodeParsed.{padded}
+use Rattle.line.specs.CodeLinePrinted.{LineEffect, printedInto}
 use Rattle.lines.specs.Text.{mostCarried, Fed, carrying, fed, after, ended}
 
 -- the bytes of an unfinished line
@@ -20,6 +22,14 @@ carriedOf c = take (c .len) (c .bytes)
 -- what the code keeps, with the cells
 abbrev pub keptOf : Kept → List ℕ → Fed
 keptOf k cells = carrying (state (k .registers) cells) (carriedOf (k .carry))
+
+-- these bytes as the code carries them, with zeros behind them
+unfoldable pub carryOf : List ℕ → Carry
+carryOf c = record { bytes = padded mostCarried c; len = length c }
+
+-- what is kept as the code keeps it, down to each byte, and the cells
+abbrev pub keptAs : Fed → Kept × List ℕ
+keptAs f = (record { registers = f .state .registers; carry = carryOf (f .carried) }, f .state .cells)
 
 -- a text was added to the output at a place: what stands before it and what stands behind it stay as they were
 pub record Appended (out : List ℕ) (at : ℕ) (text out′ : List ℕ) (at′ : ℕ) : Type 0 where
@@ -41,17 +51,25 @@ unfoldable pub LinesReached : (cols : List ℕ) (st : State) (first chunk : List
 LinesReached cols st first chunk stop out st′ from out′ at =
     (c : List ℕ) → first ≡ take mostCarried (c ++ take stop chunk) → Reached cols (carrying st c) chunk out (carrying st′ []) from out′ at
 
--- a piece of input is taken if the output has room for the longest line for each of its bytes
-unfoldable pub stepOf : List ℕ → Fed → List ℕ → List ℕ → Bool × ℕ × Fed × List ℕ
-stepOf cols f chunk out =
-    let r = fed cols f chunk in
+-- whether a piece of input was taken, how many bytes were printed, what is kept, with the cells, and the output
+abbrev pub StepEffect : Type 0
+StepEffect = Bool × ℕ × (Kept × List ℕ) × List ℕ
+
+-- a piece of input is taken if the output has room for the longest line for each of its bytes; else nothing changes
+unfoldable pub stepOf : List ℕ → Kept → List ℕ → List ℕ → List ℕ → StepEffect
+stepOf cols kept cells chunk out =
+    let r = fed cols (keptOf kept cells) chunk in
     cond (leb (longestOutputLine * length chunk) (length out))
-    (true, length (r .0), r .1, r .0 ++ drop (length (r .0)) out)
-    (false, 0, f, out)
+    (true, length (r .0), keptAs (r .1), r .0 ++ drop (length (r .0)) out)
+    (false, 0, (kept, cells), out)
 
 -- what the code returned, with the cells and the output that it was lent
-abbrev pub stepped : Stepped → List ℕ → List ℕ → Bool × ℕ × Fed × List ℕ
-stepped x cells out = (x .taken, x .written, keptOf (x .kept) cells, out)
+abbrev pub stepped : Stepped → List ℕ → List ℕ → StepEffect
+stepped x cells out = (x .taken, x .written, (x .kept, cells), out)
+
+-- what the code left at the end of the input: by what it returned, and the cells and the output that it was lent
+abbrev pub executed : Executed → List ℕ → List ℕ → LineEffect
+executed x cells out = (x .printed, out, state (x .registers) cells)
 
 -- the end of the input: what is carried is executed; nothing is done if the output has no room for the longest line
 unfoldable pub endInto : List ℕ → State → List ℕ → List ℕ → LineEffect

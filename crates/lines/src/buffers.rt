@@ -7,13 +7,13 @@ ghost use lib.Dec.{ltb};
 ghost use lib.ListN.{length, take};
 ghost use lib.Seq.{paste};
 ghost use Rattle.lines.specs.Text.{mostCarried};
-ghost use Rattle.lines.specs.CodeStepped.{carriedOf};
+ghost use Rattle.lines.specs.CodeStepped.{carryOf};
 use parser::LONGEST_INPUT_LINE;
 
 // The most bytes of an unfinished line that are kept; one more than a line may have shows that it is too long.
 pub const MOST_CARRIED: usize = LONGEST_INPUT_LINE + 1;
 
-// The bytes since the last LF.
+// The bytes since the last LF, as far as they are kept; behind the first `len` they are 0.
 pub struct Carry {
     pub bytes: [u8; MOST_CARRIED],
     pub len: usize,
@@ -31,19 +31,21 @@ fn copy(src: &[u8], n: usize, dst: &mut [u8], at: usize)
     }
 }
 
+// The smaller of two numbers.
 fn least(a: usize, b: usize) -> usize
     ensures { λ r. ⌜ r ≡ cond (ltb a b) a b ⌝ }
 {
     if a < b { a } else { b }
 }
 
-// The first `len` of these bytes and then those of a part, as far as there is room.
+// The first `len` of these bytes and then those of a part, as far as there is room, and zeros behind them.
 pub(crate) fn joined(start: [u8; MOST_CARRIED], len: usize, part: &[u8]) -> Carry
-    ensures { λ r. ⌜ (carriedOf r ≡ take mostCarried (take len start ++ now (part .entry))) × (length (take len start) ≤ mostCarried) × (r .len ≤ mostCarried) ⌝ }
+    ensures { λ r. ⌜ r ≡ carryOf (take mostCarried (take len start ++ now (part .entry))) ⌝ }
 {
-    let mut bytes = start;
     let n = least(len, MOST_CARRIED);
     let more = least(MOST_CARRIED - n, part.len());
+    let mut bytes = [0u8; MOST_CARRIED];
+    copy(&start, n, &mut bytes, 0);
     copy(part, more, &mut bytes, n);
     Carry {
         bytes: bytes,

@@ -10,13 +10,11 @@ ghost use Rattle.registers.specs.Record.{recordOf};
 ghost use Rattle.calls.specs.State.{state};
 ghost use Rattle.print.specs.CodePrinted.{longestOutputLine};
 ghost use Rattle.line_ends.specs.LineEnd.{lineLength};
-ghost use Rattle.line.specs.CodePrinted.{executed};
-ghost use Rattle.lines.specs.CodeStepped.{carriedOf, keptOf, LinesReached, stepOf, stepped, endInto};
+ghost use Rattle.lines.specs.CodeStepped.{carriedOf, keptAs, LinesReached, stepOf, stepped, executed, endInto};
 ghost use Rattle.lines.specs.Text.{carrying, freshState};
 use crate::buffers::Carry;
 use crate::buffers::MOST_CARRIED;
 use crate::buffers::joined;
-use line::Executed;
 use line::execute_in_place;
 use line_ends::line_end;
 use print::LONGEST_OUTPUT_LINE;
@@ -38,6 +36,12 @@ pub struct Stepped {
     pub written: usize,
 }
 
+// The record at the end of the input, and how many bytes the last line printed.
+pub struct Executed {
+    pub registers: Registers,
+    pub printed: usize,
+}
+
 // How far the complete lines of a chunk have been executed: an index into the chunk, and one into the output.
 pub struct Progress {
     pub from: usize,
@@ -57,7 +61,7 @@ fn clear(cells: &mut [u8])
 
 // LINE-9: the start: a fresh record, cells that are 0, and no bytes carried.
 pub fn start(cells: &mut [u8]) -> Kept
-    ensures { λ k. ⌜ keptOf k (now (cells .exit)) ≡ carrying (freshState (length (now (cells .entry)))) [] ⌝ }
+    ensures { λ k. ⌜ (k, now (cells .exit)) ≡ keptAs (carrying (freshState (length (now (cells .entry)))) []) ⌝ }
 {
     clear(cells);
     Kept {
@@ -112,7 +116,7 @@ fn whole_lines<'a>(
 // Takes a chunk of input of any length: the lines that it completes are executed, and their output is written to the start of `out`. If `out`
 // has no room for the longest line for each byte of the chunk, nothing is taken.
 pub fn step(kept: Kept, cells: &mut [u8], chunk: &[u8], out: &mut [u8]) -> Stepped
-    ensures { λ r. ⌜ stepped r (now (cells .exit)) (now (out .exit)) ≡ stepOf columns (keptOf kept (now (cells .entry))) (now (chunk .entry)) (now (out .entry)) ⌝ }
+    ensures { λ r. ⌜ stepped r (now (cells .exit)) (now (out .exit)) ≡ stepOf columns kept (now (cells .entry)) (now (chunk .entry)) (now (out .entry)) ⌝ }
 {
     if out.len() / LONGEST_OUTPUT_LINE < chunk.len() {
         return Stepped {

@@ -3,6 +3,7 @@ mod buffers;
 mod feed;
 
 pub use buffers::Carry;
+pub use feed::Executed;
 pub use feed::Kept;
 pub use feed::LENT_BYTES;
 pub use feed::Stepped;

@@ -8,7 +8,7 @@ use borrow.Author.Tests.{not-false}
 use Rattle.refusals.specs.Paper.{Declined, refused, given}
 use Rattle.refusals.proofs.ChainLaws.{else-left, else-right, cause-fails}
 use Rattle.registers.specs.declared.Registers.{Registers}
-use Rattle.calls.specs.Calls.{flip, flipIn, parts, Given}
+use Rattle.calls.specs.Calls.{flip, flipIn, parts, CallAnswer}
 use Rattle.calls.specs.Spans.{byCall, byArguments, bySpans}
 use Rattle.calls.specs.State.{State}
 use Rattle.calls.specs.Answers.{effectOf}
@@ -45,6 +45,6 @@ module _ (cols : List ℕ) (st : State) (a b : ℕ) where
   unfolding called memoryCall
   flip-call-keeps-registers = go (memoryCall cols st (flip a b)) (flip-performs (refusal st (flip a b)) refl)
     where
-      go : (x : Given × State) → x .1 .registers ≡ st .registers → effectOf x [] .state .registers ≡ st .registers
+      go : (x : CallAnswer × State) → x .1 .registers ≡ st .registers → effectOf x [] .state .registers ≡ st .registers
       go (refused n, s) h = h
       go (given gs, s) h = h

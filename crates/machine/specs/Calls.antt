@@ -10,7 +10,7 @@ use Rattle.banks.specs.Judge.{notReady}
 use Rattle.banks.specs.Map.{inSpan, cellOf}
 use Rattle.ecc.specs.Lending.{cellAt, putCell, isLent}
 use Rattle.error_registers.specs.Errors.{reported}
-use Rattle.calls.specs.Calls.{MemoryCall, read, write, flip, scrub, burstRead, burstWrite, Access, addressOf, parts, Got, Given}
+use Rattle.calls.specs.Calls.{MemoryCall, read, write, flip, scrub, burstRead, burstWrite, Access, addressOf, parts, AccessAnswer, CallAnswer}
 use Rattle.calls.specs.Spans.{Spans, byCall, missed}
 use Rattle.calls.specs.State.{State, state}
 use Rattle.calls.specs.Answers.{Effect, effectOf}
@@ -45,22 +45,22 @@ putAt (some cell) cells k = putCell cells k cell
 
 module _ (cols : List ℕ) where
   -- MEM-9, MEM-12: an access to cell k, or without a bank: what it gives, and the cells after it
-  unfoldable pub onTarget : Option ℕ → List ℕ → Access → Got × List ℕ
+  unfoldable pub onTarget : Option ℕ → List ℕ → Access → AccessAnswer × List ℕ
   onTarget none cells x = (missed x, cells)
   onTarget (some k) cells x = let h = onCell cols x (cellAt cells k) in (h .0, putAt (h .1) cells k)
 
   -- MEM-10: what it gives is an answer, "no bank" and "uncorrectable" too, and goes to the error registers
-  unfoldable pub accessAt : Option ℕ → State → Access → Got × State
+  unfoldable pub accessAt : Option ℕ → State → Access → AccessAnswer × State
   accessAt o st x =
       let d = onTarget o (st .cells) x in
       (d .0, state (reported (d .0 .kind) (addressOf x) (st .registers)) (d .1))
 
   -- MEM-1: an access acts on the cell of the doubleword that contains its address
-  unfoldable pub access : State → Access → Got × State
+  unfoldable pub access : State → Access → AccessAnswer × State
   access st x = accessAt (cellOf (setup st) (addressOf x)) st x
 
   -- accesses one after the other, each on what the one before it left
-  unfoldable pub accesses : State → List Access → List Got × State
+  unfoldable pub accesses : State → List Access → List AccessAnswer × State
   accesses st [] = ([], st)
   accesses st (x ∷ xs) =
       let r = access st x in
@@ -68,12 +68,12 @@ module _ (cols : List ℕ) where
       (r .0 ∷ rs .0, rs .1)
 
   -- DEM-1: a refused call leaves everything as it was
-  unfoldable pub performed : Declined → State → List Access → Given × State
+  unfoldable pub performed : Declined → State → List Access → CallAnswer × State
   performed (some n) st xs = (refused n, st)
   performed none st xs = let r = accesses st xs in (given (r .0), r .1)
 
   -- MEM-1, DEM-6: what a memory call gives and leaves
-  unfoldable pub memoryCall : State → MemoryCall → Given × State
+  unfoldable pub memoryCall : State → MemoryCall → CallAnswer × State
   memoryCall st c = performed (refusal st c) st (parts c)
 
 -- ---- the contracts

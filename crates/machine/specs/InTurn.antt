@@ -4,7 +4,7 @@ use mathlib.Core.Path.{_≡_}
 use mathlib.Core.List.{List, [], _∷_, _++_}
 use mathlib.Core.Option.{none}
 use Rattle.refusals.specs.Paper.{refused, given}
-use Rattle.calls.specs.Calls.{MemoryCall, read, write, flip, scrub, burstRead, burstWrite, Access, readIn, writeIn, flipIn, scrubIn, parts, Given}
+use Rattle.calls.specs.Calls.{MemoryCall, read, write, flip, scrub, burstRead, burstWrite, Access, readIn, writeIn, flipIn, scrubIn, parts, CallAnswer}
 use Rattle.calls.specs.State.{State}
 use Rattle.machine.specs.Calls.{refusal, memoryCall}
 
@@ -21,13 +21,13 @@ singles [] = []
 singles (x ∷ xs) = single x ∷ singles xs
 
 -- what a call and those behind it give: all that they give, in order, or the first refusal among them
-abbrev pub together : Given → Given → Given
+abbrev pub together : CallAnswer → CallAnswer → CallAnswer
 together (refused n) rest = refused n
 together (given gs) (refused n) = refused n
 together (given gs) (given hs) = given (gs ++ hs)
 
 -- calls one after the other, each on what the one before it left
-unfoldable pub inTurn : List ℕ → State → List MemoryCall → Given × State
+unfoldable pub inTurn : List ℕ → State → List MemoryCall → CallAnswer × State
 inTurn cols st [] = (given [], st)
 inTurn cols st (c ∷ cs) =
     let r = memoryCall cols st c in

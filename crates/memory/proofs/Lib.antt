@@ -1,8 +1,1 @@
-pub mod CallLaws
-pub mod AccessLaws
-pub mod TargetLaws
-pub mod LineLaws
-pub mod BurstLaws
-pub mod SplitLaws
-pub mod FetchLaws
-pub mod WholeLaws
+pub mod FlipLaws

@@ -26,6 +26,7 @@ pub fn read(registers: Registers, cells: &[u8], address: u32, buffer: &mut [u8])
     }
 }
 
+// MEM-4, MEM-5: a write of these bytes.
 pub fn write(registers: Registers, cells: &mut [u8], address: u32, bytes: &[u8]) -> Called
     ensures { λ x. ⌜ leaves (x .answer) (state (x .registers) (now (cells .exit))) [] ≡ writeCall columns (state registers (now (cells .entry))) address (now (bytes .entry)) ⌝ }
 {
@@ -49,6 +50,7 @@ pub fn flip(registers: Registers, cells: &mut [u8], address: u32, bit: u32) -> C
     }
 }
 
+// MEM-8: a scrub of the doubleword that holds the address.
 pub fn scrub(registers: Registers, cells: &mut [u8], address: u32) -> Called
     ensures { λ x. ⌜ leaves (x .answer) (state (x .registers) (now (cells .exit))) [] ≡ scrubCall columns (state registers (now (cells .entry))) address ⌝ }
 {
@@ -64,10 +66,10 @@ pub fn scrub(registers: Registers, cells: &mut [u8], address: u32) -> Called
 pub fn burst_read(registers: Registers, cells: &[u8], address: u32, buffer: &mut [u8]) -> Called
     ensures { λ x. ⌜ leaves (x .answer) (state (x .registers) (now (cells .entry))) (now (buffer .exit)) ≡ burstReadCall columns (state registers (now (cells .entry))) address (now (buffer .entry)) ⌝ }
 {
-    let mut after_fill = registers.bytes;
-    let answer = memory::burst_read_in_place(&mut after_fill, cells, address, buffer);
+    let mut after_reads = registers.bytes;
+    let answer = memory::burst_read_in_place(&mut after_reads, cells, address, buffer);
     Called {
-        registers: Registers { bytes: after_fill },
+        registers: Registers { bytes: after_reads },
         answer: answer,
     }
 }
@@ -76,10 +78,10 @@ pub fn burst_read(registers: Registers, cells: &[u8], address: u32, buffer: &mut
 pub fn burst_write(registers: Registers, cells: &mut [u8], address: u32, bytes: &[u8]) -> Called
     ensures { λ x. ⌜ leaves (x .answer) (state (x .registers) (now (cells .exit))) [] ≡ burstWriteCall columns (state registers (now (cells .entry))) address (now (bytes .entry)) ⌝ }
 {
-    let mut after_push = registers.bytes;
-    let answer = memory::burst_write_in_place(&mut after_push, cells, address, bytes);
+    let mut after_burst = registers.bytes;
+    let answer = memory::burst_write_in_place(&mut after_burst, cells, address, bytes);
     Called {
-        registers: Registers { bytes: after_push },
+        registers: Registers { bytes: after_burst },
         answer: answer,
     }
 }

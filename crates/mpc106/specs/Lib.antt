@@ -1,2 +1,2 @@
-pub mod Given
+pub mod Numbers
 pub mod MemoryResults

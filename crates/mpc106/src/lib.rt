@@ -1,6 +1,6 @@
 // The library for emulators: each call as a C function over lent bytes and numbers. A call returns 0 if it is accepted, and its refusal if it is
 // not; what an accepted call gives is put in its last parameter. include/mpc106.h declares these functions and, over them, the calls that C
-// programs use.
+// programs use. Each name carries the major version of the interface, which the header states, so that a program for another is not linked.
 ghost use mathlib.Core.Path.{_≡_};
 ghost use mathlib.Core.List.{[]};
 ghost use Rattle.refusals.specs.Paper.{_gives_};
@@ -15,7 +15,7 @@ ghost use Rattle.ecc.specs.Columns.{columns};
 ghost use Rattle.calls.specs.State.{state};
 ghost use Rattle.machine.specs.Calls.{readCall, writeCall, flipCall, scrubCall, burstReadCall, burstWriteCall};
 ghost use Rattle.results.specs.Results.{resultOfVerdict, returned};
-ghost use Rattle.mpc106.specs.Given.{single, truth, placeNumbers, writeResult};
+ghost use Rattle.mpc106.specs.Numbers.{single, truth, placeNumbers, writeResult};
 ghost use Rattle.mpc106.specs.MemoryResults.{memoryResult, resultOfCall, flipResult};
 use alike::Comparison;
 use banks::CellCount;
@@ -27,8 +27,9 @@ use register_calls::RegisterRead;
 use registers::Registers;
 use way_back::Origin;
 
+// REG-1: makes a record of zeros.
 #[no_mangle]
-pub extern "C" fn mpc106_raw_fresh(registers: &mut [u8; 256])
+pub extern "C" fn mpc106_v4_fresh(registers: &mut [u8; 256])
     ensures { λ _. ⌜ recordOf (now (registers .exit)) ≡ fresh ⌝ }
 {
     let r = Registers::fresh();
@@ -36,15 +37,17 @@ pub extern "C" fn mpc106_raw_fresh(registers: &mut [u8; 256])
     *registers = bytes;
 }
 
+// ON-8: what switching the record on would get.
 #[no_mangle]
-pub extern "C" fn mpc106_raw_judge(registers: &[u8; 256]) -> u32
+pub extern "C" fn mpc106_v4_judge(registers: &[u8; 256]) -> u32
     ensures { λ n. ⌜ n ≡ resultOfVerdict (judged (setupOf (recordOf (now (registers .entry))))) ⌝ }
 {
-    results::of_verdict(banks::judge(Registers { bytes: *registers }))
+    results::of_verdict(judging::judge(Registers { bytes: *registers }))
 }
 
+// MAP-6: how many cells the banks have together.
 #[no_mangle]
-pub extern "C" fn mpc106_raw_cell_count(registers: &[u8; 256], count: &mut [u32; 1]) -> u32
+pub extern "C" fn mpc106_v4_cell_count(registers: &[u8; 256], count: &mut [u32; 1]) -> u32
     ensures { λ n. ⌜ (n, now (count .exit)) ≡ returned single (notReady (setupOf (recordOf (now (registers .entry)))) gives cellCount (setupOf (recordOf (now (registers .entry))))) (now (count .entry)) ⌝ }
 {
     let cells = address_map::cell_count(Registers { bytes: *registers });
@@ -57,8 +60,9 @@ pub extern "C" fn mpc106_raw_cell_count(registers: &[u8; 256], count: &mut [u32;
     }
 }
 
+// REG-17: reads a register.
 #[no_mangle]
-pub extern "C" fn mpc106_raw_register_read(
+pub extern "C" fn mpc106_v4_register_read(
     registers: &[u8; 256],
     offset: u32,
     value: &mut [u8; 1],
@@ -75,19 +79,17 @@ pub extern "C" fn mpc106_raw_register_read(
     }
 }
 
+// REG-18: writes a register.
 #[no_mangle]
-pub extern "C" fn mpc106_raw_register_write(
-    registers: &mut [u8; 256],
-    offset: u32,
-    value: u8,
-) -> u32
+pub extern "C" fn mpc106_v4_register_write(registers: &mut [u8; 256], offset: u32, value: u8) -> u32
     ensures { λ n. ⌜ (n, recordOf (now (registers .exit))) ≡ writeResult (writeAt (recordOf (now (registers .entry))) offset value) ⌝ }
 {
     results::of_verdict(register_calls::write_in_place(registers, offset, value))
 }
 
+// MAP-9: bank, row, column and cell of an address.
 #[no_mangle]
-pub extern "C" fn mpc106_raw_map(registers: &[u8; 256], address: u32, place: &mut [u32; 5]) -> u32
+pub extern "C" fn mpc106_v4_map(registers: &[u8; 256], address: u32, place: &mut [u32; 5]) -> u32
     ensures { λ n. ⌜ (n, now (place .exit)) ≡ returned placeNumbers (mapped (setupOf (recordOf (now (registers .entry)))) address) (now (place .entry)) ⌝ }
 {
     let mapping = address_map::map(Registers { bytes: *registers }, address);
@@ -107,8 +109,9 @@ pub extern "C" fn mpc106_raw_map(registers: &[u8; 256], address: u32, place: &mu
     }
 }
 
+// The address of a bank, row and column.
 #[no_mangle]
-pub extern "C" fn mpc106_raw_way_back(
+pub extern "C" fn mpc106_v4_way_back(
     registers: &[u8; 256],
     bank: u32,
     row: u32,
@@ -132,8 +135,9 @@ pub extern "C" fn mpc106_raw_way_back(
     }
 }
 
+// ALIKE-1: whether two records map every address in the same way.
 #[no_mangle]
-pub extern "C" fn mpc106_raw_alike(
+pub extern "C" fn mpc106_v4_alike(
     first: &[u8; 256],
     second: &[u8; 256],
     alike: &mut [u32; 1],
@@ -154,8 +158,9 @@ pub extern "C" fn mpc106_raw_alike(
     }
 }
 
+// MEM-2: a read of as many bytes as the buffer has.
 #[no_mangle]
-pub extern "C" fn mpc106_raw_read(
+pub extern "C" fn mpc106_v4_read(
     registers: &mut [u8; 256],
     cells: &[u8],
     address: u32,
@@ -168,8 +173,9 @@ pub extern "C" fn mpc106_raw_read(
     results::give_answer(given, answer)
 }
 
+// MEM-4, MEM-5: a write of these bytes.
 #[no_mangle]
-pub extern "C" fn mpc106_raw_write(
+pub extern "C" fn mpc106_v4_write(
     registers: &mut [u8; 256],
     cells: &mut [u8],
     address: u32,
@@ -182,8 +188,9 @@ pub extern "C" fn mpc106_raw_write(
     results::give_answer(given, answer)
 }
 
+// MEM-7: a flip of one bit of a cell.
 #[no_mangle]
-pub extern "C" fn mpc106_raw_flip(
+pub extern "C" fn mpc106_v4_flip(
     registers: &[u8; 256],
     cells: &mut [u8],
     address: u32,
@@ -196,8 +203,9 @@ pub extern "C" fn mpc106_raw_flip(
     results::of_verdict(verdict)
 }
 
+// MEM-8: a scrub of the doubleword that holds the address.
 #[no_mangle]
-pub extern "C" fn mpc106_raw_scrub(
+pub extern "C" fn mpc106_v4_scrub(
     registers: &mut [u8; 256],
     cells: &mut [u8],
     address: u32,
@@ -209,8 +217,9 @@ pub extern "C" fn mpc106_raw_scrub(
     results::give_answer(given, answer)
 }
 
+// MEM-13: a burst read of a cache line.
 #[no_mangle]
-pub extern "C" fn mpc106_raw_burst_read(
+pub extern "C" fn mpc106_v4_burst_read(
     registers: &mut [u8; 256],
     cells: &[u8],
     address: u32,
@@ -223,8 +232,9 @@ pub extern "C" fn mpc106_raw_burst_read(
     results::give_answer(given, answer)
 }
 
+// MEM-13: a burst write of a cache line.
 #[no_mangle]
-pub extern "C" fn mpc106_raw_burst_write(
+pub extern "C" fn mpc106_v4_burst_write(
     registers: &mut [u8; 256],
     cells: &mut [u8],
     address: u32,

@@ -9,7 +9,8 @@ use lib.Dec.{ltb}
 use lib.ListN.{length, getD, take, drop, set, length-drop, drop-of-length-le}
 use lib.Seq.{drop-cons, take-suc-set, append-snoc}
 use borrow.Author.Tests.{lt-ltb, le-ltb, le-leb, lt-leb}
-use Rattle.hex_digits.specs.Digits.{onSome, below, hexFrom, hexBytes, bytesField}
+use Rattle.hex_digits.specs.Digits.{onSome, hexFrom, hexBytes, bytesField}
+use Rattle.hex_digits.specs.CodeDigits.{below}
 
 abbrev pub prefixed : List ℕ → Option (List ℕ) → Option (List ℕ)
 prefixed xs o = onSome o (λ ys. some (xs ++ ys))

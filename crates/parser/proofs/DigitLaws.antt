@@ -12,7 +12,8 @@ use borrow.Author.Tests.{lt-ltb, le-ltb, ltb-true, leb-true, eq-eqb, ne-eqb}
 use Rattle.basics.proofs.Bools.{and-left, and-right}
 use Rattle.basics.proofs.RangeLaws.{byCases}
 use Rattle.basics.proofs.ListLaws.{listFrom, from-take}
-use Rattle.hex_digits.specs.Digits.{onSome, below, decimalDigit, hexDigit, hexFrom, hexField, decimalField}
+use Rattle.hex_digits.specs.Digits.{onSome, decimalDigit, hexDigit, hexFrom, hexField, decimalField}
+use Rattle.hex_digits.specs.CodeDigits.{below}
 
 pub below-some : (k r : ℕ) → r < k → below k r ≡ some r
 below-some k r h = rw (lt-ltb r k h)

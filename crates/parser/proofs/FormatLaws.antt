@@ -12,10 +12,12 @@ use borrow.Author.Tests.{lt-ltb, le-ltb, eqb-true, eq-eqb, ne-eqb}
 use Rattle.basics.proofs.RangeLaws.{byCases}
 use Rattle.basics.proofs.ListLaws.{from-take}
 use Rattle.calls.specs.Calls.{Call}
-use Rattle.hex_digits.specs.Digits.{onSome, below, hexFrom, hexField}
+use Rattle.hex_digits.specs.Digits.{onSome, hexFrom, hexField, hexBytes, bytesField}
+use Rattle.hex_digits.specs.CodeDigits.{below}
 use Rattle.parser.specs.Format.{prependByte, fields, oneField, twoFields, byLetter, byFields, longestInputLine, parse}
 use Rattle.parser.proofs.DigitLaws.{drop-is, field-is, field-lacks}
-use Rattle.parser.proofs.PlainLaws.{hexField-plain}
+use Rattle.parser.proofs.PlainLaws.{hexField-plain, bytesField-plain}
+use Rattle.parser.proofs.ByteLaws.{whole-bytes}
 use Rattle.parser.proofs.FieldLaws.{either-none, one-field, two-is}
 
 cond-none : {A : Type 0} (t : Bool) {y : Option A} → y ≡ none → cond t none y ≡ none
@@ -82,6 +84,11 @@ scrub-is l k h a p =
     let last : length (drop 2 l) ≡ 8 = simp length-drop (omega arith) in
     one-field (hexField 8) k (hexField-plain 8) (drop 2 l)
     ∙ rw (field-is 8 (drop 2 l) last, ← take-all 8 (drop 2 l) (omega arith), p)
+
+pub write-is : (k : ℕ → List ℕ → Call) (l : List ℕ) → 13 ≤ length l → length l ≤ 27 → getD l 10 0 ≡ 0x2C → (a : ℕ)
+    → hexFrom 0 (take 8 (drop 2 l)) ≡ below (2 ^ 32) a
+    → twoFields (hexField 8) bytesField k (fields (drop 2 l)) ≡ onSome (below (2 ^ 32) a) (λ b. onSome (hexBytes (drop 11 l)) (λ bs. some (k b bs)))
+write-is k l h j e a p = two-is bytesField k bytesField-plain l 8 (omega arith) e ∙ rw (p, whole-bytes l h j)
 
 pub one-lacks : (l : List ℕ) (k : ℕ → Call) (n : ℕ) → (length l ≡ 2 + n → ⊥) → 2 ≤ length l → oneField (hexField n) k (fields (drop 2 l)) ≡ none
 one-lacks l k n h e =

@@ -1,3 +1,5 @@
+pub mod PaddedLaws
+pub mod ParsedLaws
 pub mod DigitLaws
 pub mod ByteLaws
 pub mod PlainLaws

@@ -3,14 +3,15 @@ ghost use mathlib.Core.Path.{_≡_};
 ghost use Prim.Native.Nat.{_≤_, _^_};
 ghost use mathlib.Core.List.{[], _∷_};
 ghost use lib.ListN.{length, take, drop};
-ghost use Rattle.hex_digits.specs.Digits.{below, decimalDigit, hexDigit, hexFrom};
+ghost use Rattle.hex_digits.specs.Digits.{decimalDigit, hexDigit, hexFrom};
+ghost use Rattle.hex_digits.specs.CodeDigits.{below};
 
 // A decimal digit's value, or 100.
 pub(crate) fn decimal_digit(b: u8) -> u8
     ensures { λ r. ⌜ (decimalDigit b ≡ below 10 r) × (decimalDigit b ≡ below 100 r) ⌝ }
 {
-    if (0x30 <= b) & (b <= 0x39) {
-        b - 0x30
+    if (b'0' <= b) & (b <= b'9') {
+        b - b'0'
     } else {
         100
     }
@@ -20,11 +21,11 @@ pub(crate) fn decimal_digit(b: u8) -> u8
 pub(crate) fn hex_digit(b: u8) -> u8
     ensures { λ r. ⌜ hexDigit b ≡ below 16 r ⌝ }
 {
-    if (0x61 <= b) & (b <= 0x66) {
-        return b - 0x57;
+    if (b'a' <= b) & (b <= b'f') {
+        return b - b'a' + 10;
     }
-    if (0x30 <= b) & (b <= 0x39) {
-        b - 0x30
+    if (b'0' <= b) & (b <= b'9') {
+        b - b'0'
     } else {
         16
     }

@@ -3,7 +3,7 @@ ghost use mathlib.Core.Path.{_≡_};
 ghost use Prim.Native.Nat.{_≤_};
 ghost use lib.ListN.{length, drop, getD};
 ghost use Rattle.parser.specs.Format.{fields, byLetter, parse};
-ghost use Rattle.parser.specs.CodeParsed.{meant};
+ghost use Rattle.parser.specs.CodeParsed.{parsedAs};
 
 mod bytes;
 mod digits;
@@ -25,25 +25,25 @@ use request::malformed;
 // Parses by the letter a line whose second byte is a comma.
 fn by_letter(line: &[u8]) -> Parsed
     requires { ⌜ 2 ≤ length (now line) ⌝ }
-    ensures { λ r. ⌜ (meant r ≡ byLetter (getD (now (line .entry)) 0 0) (fields (drop 2 (now (line .entry))))) × (r .count ≤ length (r .bytes)) ⌝ }
+    ensures { λ r. ⌜ r ≡ parsedAs (byLetter (getD (now (line .entry)) 0 0) (fields (drop 2 (now (line .entry))))) ⌝ }
 {
     let letter = line[0];
-    if letter == 0x63 {
+    if letter == b'c' {
         return bare(parse_register_write(line));
     }
-    if letter == 0x67 {
+    if letter == b'g' {
         return bare(parse_register_read(line));
     }
-    if letter == 0x77 {
+    if letter == b'w' {
         return parse_write(line);
     }
-    if letter == 0x72 {
+    if letter == b'r' {
         return bare(parse_read(line));
     }
-    if letter == 0x66 {
+    if letter == b'f' {
         return bare(parse_flip(line));
     }
-    if letter == 0x73 {
+    if letter == b's' {
         return bare(parse_scrub(line));
     }
     malformed()
@@ -52,9 +52,9 @@ fn by_letter(line: &[u8]) -> Parsed
 // The most bytes that a line has, without its LF.
 pub const LONGEST_INPUT_LINE: usize = 40;
 
-// What a line asks for.
+// What a line, given without its LF, asks for (LINE-1, LINE-2, LINE-11).
 pub fn parse(line: &[u8]) -> Parsed
-    ensures { λ r. ⌜ (meant r ≡ parse (now (line .entry))) × (r .count ≤ length (r .bytes)) ⌝ }
+    ensures { λ r. ⌜ r ≡ parsedAs (parse (now (line .entry))) ⌝ }
 {
     if line.len() < 2 {
         return malformed();
@@ -63,7 +63,7 @@ pub fn parse(line: &[u8]) -> Parsed
         return malformed();
     }
     let comma = line[1];
-    if comma != 0x2c {
+    if comma != b',' {
         return malformed();
     }
     by_letter(line)

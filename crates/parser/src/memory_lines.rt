@@ -4,9 +4,10 @@ ghost use Prim.Native.Nat.{ℕ, _≤_};
 ghost use mathlib.Core.List.{[]};
 ghost use lib.ListN.{length, drop};
 ghost use Rattle.calls.specs.Calls.{Call, memory, read, flip, write, scrub};
-ghost use Rattle.hex_digits.specs.Digits.{below, hexField, decimalField, bytesField};
+ghost use Rattle.hex_digits.specs.Digits.{hexField, decimalField, bytesField};
+ghost use Rattle.hex_digits.specs.CodeDigits.{below};
 ghost use Rattle.parser.specs.Format.{fields, oneField, twoFields};
-ghost use Rattle.parser.specs.CodeParsed.{asked, meant, withBoth};
+ghost use Rattle.parser.specs.CodeParsed.{asked, parsedAs, withBoth};
 use crate::bytes::hex_bytes;
 use crate::digits::decimal_digit;
 use crate::digits::hex_address;
@@ -71,7 +72,7 @@ fn parse_address_and_number(line: &[u8]) -> AddressAndNumber
         return AddressAndNumber::Malformed;
     }
     let comma = line[10];
-    if comma != 0x2c {
+    if comma != b',' {
         return AddressAndNumber::Malformed;
     }
     let address = hex_address(line);
@@ -85,6 +86,7 @@ fn parse_address_and_number(line: &[u8]) -> AddressAndNumber
     AddressAndNumber::Both(address as u32, number)
 }
 
+// `r,address,count`
 pub(crate) fn parse_read(line: &[u8]) -> Request
     requires { ⌜ 2 ≤ length (now line) ⌝ }
     ensures { λ r. ⌜ asked r [] ≡ twoFields (hexField 8) decimalField (λ a n. memory (read a n)) (fields (drop 2 (now (line .entry)))) ⌝ }
@@ -96,6 +98,7 @@ pub(crate) fn parse_read(line: &[u8]) -> Request
     }
 }
 
+// `f,address,bit`
 pub(crate) fn parse_flip(line: &[u8]) -> Request
     requires { ⌜ 2 ≤ length (now line) ⌝ }
     ensures { λ r. ⌜ asked r [] ≡ twoFields (hexField 8) decimalField (λ a b. memory (flip a b)) (fields (drop 2 (now (line .entry)))) ⌝ }
@@ -110,7 +113,7 @@ pub(crate) fn parse_flip(line: &[u8]) -> Request
 // `w,address,bytes`
 pub(crate) fn parse_write(line: &[u8]) -> Parsed
     requires { ⌜ 2 ≤ length (now line) ⌝ }
-    ensures { λ r. ⌜ (meant r ≡ twoFields (hexField 8) bytesField (λ a bs. memory (write a bs)) (fields (drop 2 (now (line .entry))))) × (r .count ≤ length (r .bytes)) ⌝ }
+    ensures { λ r. ⌜ r ≡ parsedAs (twoFields (hexField 8) bytesField (λ a bs. memory (write a bs)) (fields (drop 2 (now (line .entry))))) ⌝ }
 {
     let n = line.len();
     if n < 13 {
@@ -125,7 +128,7 @@ pub(crate) fn parse_write(line: &[u8]) -> Parsed
         return malformed();
     }
     let comma = line[10];
-    if comma != 0x2c {
+    if comma != b',' {
         return malformed();
     }
     let address = hex_address(line);

@@ -20,7 +20,7 @@ pub(crate) fn parse_register_write(line: &[u8]) -> Request
         return Request::Malformed;
     }
     let comma = line[4];
-    if comma != 0x2c {
+    if comma != b',' {
         return Request::Malformed;
     }
     let offset = hex_pair(line[2], line[3]);

@@ -1,11 +1,9 @@
 // What a line can ask for.
 ghost use mathlib.Core.Path.{_≡_};
-ghost use Prim.Native.Nat.{_≤_};
-ghost use mathlib.Core.List.{[]};
 ghost use mathlib.Core.Option.{none};
-ghost use lib.ListN.{length};
-ghost use Rattle.parser.specs.CodeParsed.{asked, meant};
+ghost use Rattle.parser.specs.CodeParsed.{bareOf, parsedAs};
 
+// The call that a line asks for, or that it asks for none (LINE-11). The bytes of a write stand beside it.
 pub enum Request {
     Malformed,
     WriteRegister(u8, u8),
@@ -16,15 +14,16 @@ pub enum Request {
     Scrub(u32),
 }
 
-// A request with the bytes of a write, which are next to it, since an enum cannot hold an array.
+// A request with the bytes of a write, which are next to it, since an enum cannot hold an array; behind the first `count` they are 0.
 pub struct Parsed {
     pub request: Request,
     pub bytes: [u8; 8],
     pub count: usize,
 }
 
+// The answer to a line that asks for nothing.
 pub(crate) fn malformed() -> Parsed
-    ensures { λ r. ⌜ (meant r ≡ none) × (r .count ≤ length (r .bytes)) ⌝ }
+    ensures { λ r. ⌜ r ≡ parsedAs none ⌝ }
 {
     Parsed {
         request: Request::Malformed,
@@ -35,7 +34,7 @@ pub(crate) fn malformed() -> Parsed
 
 // A request that has no bytes.
 pub(crate) fn bare(request: Request) -> Parsed
-    ensures { λ r. ⌜ (meant r ≡ asked request []) × (r .count ≤ length (r .bytes)) ⌝ }
+    ensures { λ r. ⌜ r ≡ bareOf request ⌝ }
 {
     Parsed {
         request: request,

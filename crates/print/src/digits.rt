@@ -8,16 +8,17 @@ fn character(d: u8) -> u8
     requires { ⌜ d < 16 ⌝ }
     ensures { λ r. ⌜ r ≡ hexCharacter d ⌝ }
 {
-    if d < 10 { 0x30 + d } else { 0x57 + d }
+    if d < 10 { b'0' + d } else { b'a' + (d - 10) }
 }
 
-// The first and the second of the two digits that print a byte.
+// The first of the two digits that print a byte.
 pub(crate) fn high_digit(b: u8) -> u8
     ensures { λ r. ⌜ r ≡ hexCharacter (b / 16) ⌝ }
 {
     character(b / 16)
 }
 
+// The second of them.
 pub(crate) fn low_digit(b: u8) -> u8
     ensures { λ r. ⌜ r ≡ hexCharacter (b % 16) ⌝ }
 {

@@ -39,7 +39,7 @@ pub fn register_read(reading: RegisterRead, out: &mut [u8]) -> usize
         return 0;
     }
     match reading {
-        RegisterRead::Refused(x) => text::refused(0x67, refusals::number(x), out),
+        RegisterRead::Refused(x) => text::refused(b'g', refusals::number(x), out),
         RegisterRead::Value(v) => text::value(v, out),
     }
 }
@@ -71,7 +71,7 @@ pub fn read(answer: Answer, bytes: &[u8], out: &mut [u8]) -> usize
     let n = text::least(8, bytes.len());
     let verdict = answer.verdict;
     match verdict {
-        Verdict::Refused(x) => text::refused(0x72, refusals::number(x), out),
+        Verdict::Refused(x) => text::refused(b'r', refusals::number(x), out),
         Verdict::Accepted => {
             let parts = answer.parts;
             text::kinds_and_bytes(parts, answer.count, &bytes[..n], out)

@@ -15,6 +15,7 @@ use crate::digits::low_digit;
 use calls::Kind;
 use calls::Part;
 
+// The smaller of two numbers.
 pub(crate) fn least(a: usize, b: usize) -> usize
     ensures { λ r. ⌜ r ≡ cond (ltb a b) a b ⌝ }
 {
@@ -27,22 +28,23 @@ fn write_decimal(n: u8, out: &mut [u8], at: usize) -> usize
     ensures { λ end. ⌜ (end ≡ at + length (decimal n)) × (now (out .exit) ≡ sets (now (out .entry)) at (decimal n)) × (end ≤ at + 2) ⌝ }
 {
     if n < 10 {
-        out[at] = 0x30 + n;
+        out[at] = b'0' + n;
         return at + 1;
     }
-    out[at] = 0x30 + n / 10;
-    out[at + 1] = 0x30 + n % 10;
+    out[at] = b'0' + n / 10;
+    out[at + 1] = b'0' + n % 10;
     at + 2
 }
 
+// Refused: the letter and the number of the refusal.
 pub(crate) fn refused(letter: u8, number: u8, out: &mut [u8]) -> usize
     requires { ⌜ longestOutputLine ≤ length (now out) ⌝ }
     ensures { λ n. ⌜ (n, now (out .exit)) ≡ atStart (refusedText letter number) (now (out .entry)) ⌝ }
 {
     out[0] = letter;
-    out[1] = 0x2c;
+    out[1] = b',';
     let end = write_decimal(number, out, 2);
-    out[end] = 0x0a;
+    out[end] = b'\n';
     end + 1
 }
 
@@ -52,9 +54,9 @@ pub(crate) fn accepted(letter: u8, out: &mut [u8]) -> usize
     ensures { λ n. ⌜ (n, now (out .exit)) ≡ atStart (acceptedText letter []) (now (out .entry)) ⌝ }
 {
     out[0] = letter;
-    out[1] = 0x2c;
-    out[2] = 0x30;
-    out[3] = 0x0a;
+    out[1] = b',';
+    out[2] = b'0';
+    out[3] = b'\n';
     4
 }
 
@@ -63,26 +65,27 @@ pub(crate) fn value(v: u8, out: &mut [u8]) -> usize
     requires { ⌜ longestOutputLine ≤ length (now out) ⌝ }
     ensures { λ n. ⌜ (n, now (out .exit)) ≡ atStart (acceptedText 0x67 (0x2C ∷ hexPair v)) (now (out .entry)) ⌝ }
 {
-    out[0] = 0x67;
-    out[1] = 0x2c;
-    out[2] = 0x30;
-    out[3] = 0x2c;
+    out[0] = b'g';
+    out[1] = b',';
+    out[2] = b'0';
+    out[3] = b',';
     out[4] = high_digit(v);
     out[5] = low_digit(v);
-    out[6] = 0x0a;
+    out[6] = b'\n';
     7
 }
 
+// The letter of an answer (LINE-14).
 fn kind_letter(kind: Kind) -> u8
     ensures { λ r. ⌜ r ≡ kindLetter kind ⌝ }
 {
     match kind {
-        Kind::Clean => 0x6e,
-        Kind::Corrected(_) => 0x63,
-        Kind::Uncorrectable => 0x75,
-        Kind::Stored => 0x70,
-        Kind::NoBank => 0x65,
-        Kind::Flipped => 0x66,
+        Kind::Clean => b'n',
+        Kind::Corrected(_) => b'c',
+        Kind::Uncorrectable => b'u',
+        Kind::Stored => b'p',
+        Kind::NoBank => b'e',
+        Kind::Flipped => b'f',
     }
 }
 
@@ -94,7 +97,7 @@ fn write_bit(kind: Kind, out: &mut [u8], at: usize) -> usize
     match kind {
         Kind::Clean => at,
         Kind::Corrected(b) => {
-            out[at] = 0x2c;
+            out[at] = b',';
             write_decimal(b, out, at + 1)
         }
         Kind::Uncorrectable => at,
@@ -115,7 +118,7 @@ fn write_kinds(parts: [Part; 4], count: usize, out: &mut [u8]) -> usize
     while i < n {
         let part = parts[i];
         let kind = part.kind;
-        out[at] = 0x2c;
+        out[at] = b',';
         out[at + 1] = kind_letter(kind);
         at = write_bit(kind, out, at + 2);
         i += 1;
@@ -144,10 +147,10 @@ pub(crate) fn kinds(letter: u8, parts: [Part; 4], count: usize, out: &mut [u8]) 
     ensures { λ n. ⌜ (n, now (out .exit)) ≡ atStart (acceptedText letter (kindsText (kindsIn (take count parts)))) (now (out .entry)) ⌝ }
 {
     out[0] = letter;
-    out[1] = 0x2c;
-    out[2] = 0x30;
+    out[1] = b',';
+    out[2] = b'0';
     let end = write_kinds(parts, count, out);
-    out[end] = 0x0a;
+    out[end] = b'\n';
     end + 1
 }
 
@@ -156,13 +159,13 @@ pub(crate) fn kinds_and_bytes(parts: [Part; 4], count: usize, bytes: &[u8], out:
     requires { ⌜ (length (now bytes) ≤ 8) × (longestOutputLine ≤ length (now out)) ⌝ }
     ensures { λ n. ⌜ (n, now (out .exit)) ≡ atStart (acceptedText 0x72 (kindsAndBytesText (now (bytes .entry)) (kindsIn (take count parts)))) (now (out .entry)) ⌝ }
 {
-    out[0] = 0x72;
-    out[1] = 0x2c;
-    out[2] = 0x30;
+    out[0] = b'r';
+    out[1] = b',';
+    out[2] = b'0';
     let comma = write_kinds(parts, count, out);
-    out[comma] = 0x2c;
+    out[comma] = b',';
     write_pairs(bytes, out, comma + 1);
     let end = comma + 1 + 2 * bytes.len();
-    out[end] = 0x0a;
+    out[end] = b'\n';
     end + 1
 }

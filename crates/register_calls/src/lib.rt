@@ -55,6 +55,7 @@ fn is_clearing(o: u8) -> bool
     (o == Registers::ERROR_DETECTION_1) | (o == Registers::ERROR_DETECTION_2)
 }
 
+// REG-17: a register read.
 pub fn read(r: Registers, offset: u32) -> RegisterRead
     ensures { λ x. ⌜ paperRegisterRead x ≡ readAt r offset ⌝ }
 {
@@ -78,12 +79,12 @@ fn judge_write(r: Registers, offset: u32, v: u8) -> Verdict
     if is_bad_value(o, v) {
         return Verdict::Refused(Refusal::ValueOutOfRange);
     }
-    let on = banks::is_on(r);
+    let on = judging::is_on(r);
     if is_locked(o) & on {
         return Verdict::Refused(Refusal::LockedWhileOn);
     }
     if (o == Registers::MEMORY) & (v == 8) & !on {
-        return banks::judge(r);
+        return judging::judge(r);
     }
     Verdict::Accepted
 }
@@ -115,6 +116,7 @@ pub fn write_in_place(registers: &mut [u8; 256], offset: u32, value: u8) -> Verd
     }
 }
 
+// REG-18: a register write, with the record after it.
 pub fn write(r: Registers, offset: u32, value: u8) -> Written
     ensures { λ w. ⌜ paperWritten w ≡ writeAt r offset value ⌝ }
 {

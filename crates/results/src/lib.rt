@@ -1,4 +1,4 @@
-// What a call returns to a C program and gives it, as numbers.
+// The answer of a memory call, made from the outcomes of its accesses; and what a call returns to a C program and gives it, as numbers.
 ghost use mathlib.Core.Path.{_≡_};
 ghost use Prim.Native.Nat.{_<_};
 ghost use lib.ListN.{getD, take};
@@ -10,6 +10,14 @@ use calls::Kind;
 use calls::Part;
 use refusals::Refusal;
 use refusals::Verdict;
+
+mod answers;
+
+pub use answers::four;
+pub use answers::kind_of;
+pub use answers::one;
+pub use answers::refuse;
+pub use answers::two;
 
 // The bank that a refusal returns, or 0 if it returns none.
 fn bank(x: Refusal) -> u8
@@ -23,12 +31,14 @@ fn bank(x: Refusal) -> u8
     }
 }
 
+// A refusal as a C program gets it.
 pub fn of_refusal(x: Refusal) -> u32
     ensures { λ n. ⌜ n ≡ refusalCode (paper x) ⌝ }
 {
     refusals::number(x) as u32 + 256 * (bank(x) as u32)
 }
 
+// A verdict as a C program gets it: 0 if there is no refusal.
 pub fn of_verdict(v: Verdict) -> u32
     ensures { λ n. ⌜ n ≡ resultOfVerdict (paperVerdict v) ⌝ }
 {

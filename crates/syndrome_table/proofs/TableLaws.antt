@@ -1,23 +1,54 @@
--- The table has the definition's reading of every syndrome: one test over its 256 entries, which is computed.
+-- FORM-8: the table of the code has the definition's reading of every syndrome, by one test over its 256 entries, which is computed; and what an entry
+-- says of the reading.
 use mathlib.Core.Path.{_≡_, refl, sym, ap, _∙_}
-use mathlib.Core.Bool.{true}
+use mathlib.Core.Bool.{true, false}
 use mathlib.Core.Logic.{_≢_}
-use mathlib.Core.List.{List, [], _++_}
-use Prim.Native.Nat.{ℕ, zero, suc, _+_, _%_, _≤_, _<_}
+use mathlib.Core.List.{List, [], _∷_}
+use Prim.Native.Nat.{ℕ, _/_, _%_, _≤_, _<_}
 use native.Mathlib.Omega.{arith}
 use borrow.Author.Tests.{eqb-true, ltb-true, ne-eqb}
 use lib.Dec.{eqb, ltb}
-use lib.ListN.{getD, List·getD-append}
-use lib.Seq.{getD-append-add}
+use lib.ListN.{getD}
 use Rattle.basics.specs.Range.{every, first, firstOf}
 use Rattle.basics.proofs.RangeLaws.{every-at, byCases}
-use Rattle.eight_bytes.specs.CodeNumber.{bytesIn}
 use Rattle.ecc.specs.declared.Reading.the-variants.{Corrected, Uncorrectable}
 use Rattle.ecc.specs.Columns.{columns}
 use Rattle.ecc.specs.CheckCode.{flipColumn, bitReading, readingOf}
-use Rattle.syndrome_table.specs.CodeTable.{table, entryAt, entryOf}
+use Rattle.syndrome_table.specs.CodeTable.{entryOf}
 
--- ---- the rule of the table
+-- ---- the table of the code
+
+abbrev n : ℕ
+n = 72
+
+abbrev u : ℕ
+u = 73
+
+abbrev pub table : List (List ℕ)
+table =
+    (n ∷ 64 ∷ 65 ∷ u ∷ 66 ∷ u ∷ u ∷ 0 ∷ 67 ∷ u ∷ u ∷ 1 ∷ u ∷ 2 ∷ 3 ∷ u ∷ [])
+    ∷ (68 ∷ u ∷ u ∷ 4 ∷ u ∷ 5 ∷ 6 ∷ u ∷ u ∷ 7 ∷ 8 ∷ u ∷ 9 ∷ u ∷ u ∷ 56 ∷ [])
+    ∷ (69 ∷ u ∷ u ∷ 10 ∷ u ∷ 11 ∷ 12 ∷ u ∷ u ∷ 13 ∷ 14 ∷ u ∷ 15 ∷ u ∷ u ∷ 57 ∷ [])
+    ∷ (u ∷ 16 ∷ 17 ∷ u ∷ 18 ∷ u ∷ u ∷ 58 ∷ 19 ∷ u ∷ u ∷ 59 ∷ u ∷ 60 ∷ 61 ∷ u ∷ [])
+    ∷ (70 ∷ u ∷ u ∷ 20 ∷ u ∷ 21 ∷ 22 ∷ u ∷ u ∷ 23 ∷ 24 ∷ u ∷ 25 ∷ u ∷ u ∷ 62 ∷ [])
+    ∷ (u ∷ 26 ∷ 27 ∷ u ∷ 28 ∷ u ∷ u ∷ 63 ∷ 29 ∷ u ∷ u ∷ u ∷ u ∷ u ∷ u ∷ u ∷ [])
+    ∷ (u ∷ 30 ∷ 31 ∷ u ∷ 32 ∷ u ∷ u ∷ u ∷ 33 ∷ u ∷ u ∷ u ∷ u ∷ u ∷ u ∷ u ∷ [])
+    ∷ (34 ∷ u ∷ u ∷ u ∷ u ∷ u ∷ u ∷ u ∷ u ∷ u ∷ u ∷ u ∷ u ∷ u ∷ u ∷ u ∷ [])
+    ∷ (71 ∷ u ∷ u ∷ 35 ∷ u ∷ 36 ∷ 37 ∷ u ∷ u ∷ 38 ∷ 39 ∷ u ∷ 40 ∷ u ∷ u ∷ u ∷ [])
+    ∷ (u ∷ 41 ∷ 42 ∷ u ∷ 43 ∷ u ∷ u ∷ u ∷ 44 ∷ u ∷ u ∷ u ∷ u ∷ u ∷ u ∷ u ∷ [])
+    ∷ (u ∷ 45 ∷ 46 ∷ u ∷ 47 ∷ u ∷ u ∷ u ∷ 48 ∷ u ∷ u ∷ u ∷ u ∷ u ∷ u ∷ u ∷ [])
+    ∷ (49 ∷ u ∷ u ∷ u ∷ u ∷ u ∷ u ∷ u ∷ u ∷ u ∷ u ∷ u ∷ u ∷ u ∷ u ∷ u ∷ [])
+    ∷ (u ∷ 50 ∷ 51 ∷ u ∷ 52 ∷ u ∷ u ∷ u ∷ 53 ∷ u ∷ u ∷ u ∷ u ∷ u ∷ u ∷ u ∷ [])
+    ∷ (54 ∷ u ∷ u ∷ u ∷ u ∷ u ∷ u ∷ u ∷ u ∷ u ∷ u ∷ u ∷ u ∷ u ∷ u ∷ u ∷ [])
+    ∷ (55 ∷ u ∷ u ∷ u ∷ u ∷ u ∷ u ∷ u ∷ u ∷ u ∷ u ∷ u ∷ u ∷ u ∷ u ∷ u ∷ [])
+    ∷ (u ∷ u ∷ u ∷ u ∷ u ∷ u ∷ u ∷ u ∷ u ∷ u ∷ u ∷ u ∷ u ∷ u ∷ u ∷ u ∷ [])
+    ∷ []
+
+-- the entry in the line of the high hexadecimal digit, at the place of the low one
+abbrev pub entryAt : ℕ → ℕ
+entryAt s = getD (getD table (s / 16) []) (s % 16) 0
+
+-- ---- its rule
 
 all-entries : every (λ s. eqb (entryAt s) (entryOf (readingOf columns s))) 256 ≡ true
 unfolding every entryOf bitReading readingOf first firstOf flipColumn
@@ -27,24 +58,9 @@ all-entries = refl
 pub entry-reads : (s : ℕ) → s < 256 → entryAt s ≡ entryOf (readingOf columns s)
 entry-reads s h = eqb-true _ _ (every-at (λ k. eqb (entryAt k) (entryOf (readingOf columns k))) 256 all-entries s h)
 
--- ---- what an entry of a syndrome other than 0 means
+-- ---- what an entry of a syndrome other than 0 means: below 72 it is the flip bit, and from 72 on there is none
 
-module _ (b e : ℕ) (is : e ≡ entryOf (bitReading b)) where
-  bit-corrected : e < 72 → Corrected e ≡ bitReading b
-  unfolding entryOf bitReading
-  bit-corrected h =
-      byCases (ltb b 72)
-      (λ t. let same : e ≡ b = rw t at is in rw t (ap Corrected same))
-      (λ t. let same : e ≡ 73 = rw t at is in absurd (omega arith))
-
-  bit-uncorrectable : 72 ≤ e → Uncorrectable ≡ bitReading b
-  unfolding entryOf bitReading
-  bit-uncorrectable h =
-      byCases (ltb b 72)
-      (λ t. let same : e ≡ b = rw t at is in absurd (omega (arith, same, ltb-true b 72 t)))
-      (λ t. rw t)
-
-module _ (cols : List ℕ) (e s : ℕ) (reads : e ≡ entryOf (readingOf cols s)) (nz : s ≢ 0) where
+module _ (cols : List ℕ) (e s : ℕ) (is : e ≡ entryOf (readingOf cols s)) (nz : s ≢ 0) where
   bit : ℕ
   bit = first (λ b. eqb (flipColumn cols b) s) 72 0
 
@@ -52,36 +68,22 @@ module _ (cols : List ℕ) (e s : ℕ) (reads : e ≡ entryOf (readingOf cols s)
   unfolding readingOf bit
   by-bit = rw (ne-eqb s 0 nz)
 
-  pub entry-corrected : e < 72 → Corrected e ≡ readingOf cols s
-  entry-corrected h = bit-corrected bit e (reads ∙ ap entryOf by-bit) h ∙ sym by-bit
+  found : ltb bit 72 ≡ true → (readingOf cols s ≡ Corrected bit) × (e ≡ bit)
+  unfolding entryOf bitReading
+  found t = let r : readingOf cols s ≡ Corrected bit = by-bit ∙ rw t in (r, is ∙ ap entryOf r)
 
-  pub entry-uncorrectable : 72 ≤ e → Uncorrectable ≡ readingOf cols s
-  entry-uncorrectable h = bit-uncorrectable bit e (reads ∙ ap entryOf by-bit) h ∙ sym by-bit
+  unfound : ltb bit 72 ≡ false → (readingOf cols s ≡ Uncorrectable) × (e ≡ 73)
+  unfolding entryOf bitReading
+  unfound t = let r : readingOf cols s ≡ Uncorrectable = by-bit ∙ rw t in (r, is ∙ ap entryOf r)
 
--- ---- the arms of a match
+  pub entry-corrected : e < 72 → readingOf cols s ≡ Corrected e
+  entry-corrected h =
+      byCases (ltb bit 72)
+      (λ t. found t .0 ∙ ap Corrected (sym (found t .1)))
+      (λ t. absurd (omega (arith, unfound t .1)))
 
--- the line of a key
-pub line-at : (k high : ℕ) (entries : List ℕ) → high ≡ k → entries ≡ getD table k [] → entries ≡ getD table high []
-line-at k high entries at e = e ∙ ap (λ (i : ℕ). getD table i []) (sym at)
-
--- a number is none of the keys 0, 1, .., n - 1
-abbrev pub NoneBelow : ℕ → ℕ → Type 0
-NoneBelow zero x = Unit
-NoneBelow (suc n) x = NoneBelow n x × (x ≡ n → ⊥)
-
-pub none-below : (n x : ℕ) → NoneBelow n x → n ≤ x
-none-below zero x p = omega arith
-none-below (suc n) x p = let below = none-below n x (p .0) in omega (arith, below, p .1)
-
--- ---- an entry of a line
-
-module _ (low high s : ℕ) where
-  pub first-half : s % 16 < 8 → getD (bytesIn 8 low) (s % 8) 0 ≡ getD (bytesIn 8 low ++ bytesIn 8 high) (s % 16) 0
-  first-half h =
-      let place : s % 8 ≡ s % 16 = omega arith in
-      ap (λ (i : ℕ). getD (bytesIn 8 low) i 0) place ∙ sym (List·getD-append (bytesIn 8 low) (bytesIn 8 high) 0 (s % 16) h)
-
-  pub second-half : 8 ≤ s % 16 → getD (bytesIn 8 high) (s % 8) 0 ≡ getD (bytesIn 8 low ++ bytesIn 8 high) (s % 16) 0
-  second-half h =
-      let place : 8 + s % 8 ≡ s % 16 = omega arith in
-      sym (getD-append-add (bytesIn 8 low) (bytesIn 8 high) (s % 8) 0) ∙ ap (λ (i : ℕ). getD (bytesIn 8 low ++ bytesIn 8 high) i 0) place
+  pub entry-uncorrectable : 72 ≤ e → readingOf cols s ≡ Uncorrectable
+  entry-uncorrectable h =
+      byCases (ltb bit 72)
+      (λ t. absurd (omega (arith, found t .1, ltb-true bit 72 t)))
+      (λ t. unfound t .0)

@@ -22,7 +22,7 @@ use Rattle.banks.specs.Map.{selected, inSpan, cellsBelow, cells, cellInBank, ro
 use Rattle.way_back.specs.WayBack.{spanEnd, inRange, back}
 use Rattle.way_back.specs.CodeAddress.{addressAt}
 use Rattle.banks.proofs.RowLaws.{row-is, column-is}
-use Rattle.basics.proofs.Window.{window}
+use Rattle.basics.proofs.Remainders.{same-remainder}
 use Rattle.banks.proofs.FieldLaws.{Decoded, decoded}
 use Rattle.banks.proofs.SpanLaws.{Held, held-holds, bank-held}
 use Rattle.banks.proofs.AcceptedLaws.{Fitting, fitting}
@@ -38,14 +38,14 @@ module _ (b : Bank) (a : ℕ) where
   unfolding inRange rowOf columnOf cells
   own-range =
       let w = cellInBank b a in
-      let k = b .columns in
-      let i : w / 2 ^ k < 2 ^ b .rows = shr-lt (b .rows) k (cell-in-bank-most b a) in
+      let k = b .«column_bits» in
+      let i : w / 2 ^ k < 2 ^ b .«row_bits» = shr-lt (b .«row_bits») k (cell-in-bank-most b a) in
       let j : w % 2 ^ k < 2 ^ k = mod-lt w (pow-pos k) in
-      simp (lt-ltb (w / 2 ^ k) (2 ^ b .rows) i, lt-ltb (w % 2 ^ k) (2 ^ k) j)
+      simp (lt-ltb (w / 2 ^ k) (2 ^ b .«row_bits») i, lt-ltb (w % 2 ^ k) (2 ^ k) j)
 
   own-cell : cellInBankAt b (rowOf b a) (columnOf b a) ≡ cellInBank b a
   unfolding rowOf columnOf
-  own-cell = split (cellInBank b a) (b .columns)
+  own-cell = split (cellInBank b a) (b .«column_bits»)
 
   -- the doubleword that the way back finds for them is the address's own
   own-doubleword : Fitting b → Held b (a / 2 ^ 20) → doublewordFor b (cellInBankAt b (rowOf b a) (columnOf b a)) ≡ a / 8
@@ -55,7 +55,7 @@ module _ (b : Bank) (a : ℕ) where
       let column = columnOf b a in
       let x = next-doubleword b row column own-range in
       let d = doublewordFor b (cellInBankAt b row column) in
-      window (cells b) (b .start * 2 ^ 17) d (a / 8) (x .low) (x .high) (omega arith) (omega arith) (x .rest ∙ own-cell)
+      same-remainder (cells b) (b .start * 2 ^ 17) d (a / 8) (x .low) (x .high) (omega arith) (omega arith) (x .rest ∙ own-cell)
 
   own-address : Fitting b → Held b (a / 2 ^ 20) → addressAt b (rowOf b a) (columnOf b a) ≡ given (a / 8 * 8)
   unfolding spanEnd
@@ -96,11 +96,11 @@ module _ (b : Bank) (row : Row) (column : Column) (x : ℕ) (r : inRange b row c
 
   found-row : rowOf b x ≡ row
   unfolding rowOf
-  found-row = row-is (rowOf b x) row (rw found-cell (high (row .0) (b .columns) (in-range b row column r .column-most)))
+  found-row = row-is (rowOf b x) row (rw found-cell (high (row .0) (b .«column_bits») (in-range b row column r .column-most)))
 
   found-column : columnOf b x ≡ column
   unfolding columnOf
-  found-column = column-is (columnOf b x) column (rw found-cell (low (row .0) (b .columns) (in-range b row column r .column-most)))
+  found-column = column-is (columnOf b x) column (rw found-cell (low (row .0) (b .«column_bits») (in-range b row column r .column-most)))
 
 -- ---- the two ways
 -- the map, then the way back: the doubleword's address

@@ -18,11 +18,11 @@ use Rattle.banks.specs.declared.Column.{Column}
 use Rattle.banks.specs.Map.{cells, cellInBank, rowOf, columnOf}
 use Rattle.way_back.specs.WayBack.{isAt, spanEnd, doublewordAt, inRange}
 use Rattle.way_back.specs.CodeAddress.{addressAt}
-use Rattle.basics.proofs.Window.{window, next, Next, next-is}
+use Rattle.basics.proofs.Remainders.{same-remainder, next, Next, next-is}
 
 -- w, the number of a row and column within the bank
 abbrev pub cellInBankAt : Bank → Row → Column → ℕ
-cellInBankAt b row column = row .0 * 2 ^ b .columns + column .0
+cellInBankAt b row column = row .0 * 2 ^ b .«column_bits» + column .0
 
 -- the first doubleword from the bank's start on that has the number w
 abbrev pub doublewordFor : Bank → ℕ → ℕ
@@ -30,17 +30,17 @@ doublewordFor b w = next (b .start * 2 ^ 17) (cells b) w
 
 -- what `inRange` says
 pub record InRange (b : Bank) (row : Row) (column : Column) : Type 0 where
-  pub row-most : row .0 < 2 ^ b .rows
-  pub column-most : column .0 < 2 ^ b .columns
+  pub row-most : row .0 < 2 ^ b .«row_bits»
+  pub column-most : column .0 < 2 ^ b .«column_bits»
 
 pub in-range : (b : Bank) (row : Row) (column : Column) → inRange b row column ≡ true → InRange b row column
 unfolding inRange
 in-range b row column h =
-    let x = ltb (row .0) (2 ^ b .rows) in
-    let y = ltb (column .0) (2 ^ b .columns) in
+    let x = ltb (row .0) (2 ^ b .«row_bits») in
+    let y = ltb (column .0) (2 ^ b .«column_bits») in
     record {
-      row-most = ltb-true (row .0) (2 ^ b .rows) (and-left x y h);
-      column-most = ltb-true (column .0) (2 ^ b .columns) (and-right x y h);
+      row-most = ltb-true (row .0) (2 ^ b .«row_bits») (and-left x y h);
+      column-most = ltb-true (column .0) (2 ^ b .«column_bits») (and-right x y h);
     }
 
 module _ (b : Bank) (row : Row) (column : Column) (h : inRange b row column ≡ true) where
@@ -54,7 +54,7 @@ module _ (b : Bank) (row : Row) (column : Column) (h : inRange b row column ≡ 
   at-cell d t =
       let e : 8 * d / 8 ≡ d = omega arith in
       let v = d % cells b in
-      let k = b .columns in
+      let k = b .«column_bits» in
       let t′ : (eqb (v / 2 ^ k) (row .0) && eqb (v % 2 ^ k) (column .0)) ≡ true = rw e at t in
       let x = eqb-true (v / 2 ^ k) (row .0) (and-left (eqb (v / 2 ^ k) (row .0)) (eqb (v % 2 ^ k) (column .0)) t′) in
       let y = eqb-true (v % 2 ^ k) (column .0) (and-right (eqb (v / 2 ^ k) (row .0)) (eqb (v % 2 ^ k) (column .0)) t′) in
@@ -65,7 +65,7 @@ module _ (b : Bank) (row : Row) (column : Column) (h : inRange b row column ≡ 
   cell-at d t =
       let e : 8 * d / 8 ≡ d = omega arith in
       let r = in-range b row column h in
-      let k = b .columns in
+      let k = b .«column_bits» in
       simp (e, t, high (row .0) k (r .column-most), low (row .0) k (r .column-most), eq-eqb (row .0) (row .0) refl, eq-eqb (column .0) (column .0) refl)
 
   pub next-doubleword : Next (b .start * 2 ^ 17) (cells b) (cellInBankAt b row column) (doublewordFor b (cellInBankAt b row column))
@@ -81,7 +81,7 @@ module _ (b : Bank) (row : Row) (column : Column) (h : inRange b row column ≡ 
       first-is (isAt b row column) (spanEnd b) s d (x .low) l (cell-at d (x .rest))
       (λ j m k.
       byCases (isAt b row column j)
-      (λ t. let e : j ≡ d = window (cells b) s j d m (omega arith) (x .low) (x .high) (at-cell j t ∙ sym (x .rest)) in absurd (omega arith))
+      (λ t. let e : j ≡ d = same-remainder (cells b) s j d m (omega arith) (x .low) (x .high) (at-cell j t ∙ sym (x .rest)) in absurd (omega arith))
       (λ t. t))
 
   -- if it does not, there is none
@@ -97,7 +97,7 @@ module _ (b : Bank) (row : Row) (column : Column) (h : inRange b row column ≡ 
       let k = ltb-true f (spanEnd b) t in
       let g = first-ge (isAt b row column) (spanEnd b) s in
       let p = first-passes (isAt b row column) (spanEnd b) s k in
-      let e : f ≡ d = window (cells b) s f d g (omega arith) (x .low) (x .high) (at-cell f p ∙ sym (x .rest)) in
+      let e : f ≡ d = same-remainder (cells b) s f d g (omega arith) (x .low) (x .high) (at-cell f p ∙ sym (x .rest)) in
       absurd (omega arith))
       (λ t. ltb-false f (spanEnd b) t)
 

@@ -9,6 +9,7 @@ ghost use Rattle.way_back.specs.WayBack.{paperBack, inRange, back};
 ghost use Rattle.way_back.specs.CodeAddress.{addressAt};
 use banks::Bank;
 use banks::Column;
+use banks::MEGABYTE_BITS;
 use banks::Row;
 use refusals::Refusal;
 use registers::Registers;
@@ -23,16 +24,16 @@ fn is_in_range(b: Bank, row: Row, column: Column) -> bool
     requires { ⌜ Bounded b ⌝ }
     ensures { λ t. ⌜ t ≡ inRange b row column ⌝ }
 {
-    (row.0 < 1u32 << b.rows) & (column.0 < 1u32 << b.columns)
+    (row.0 < 1u32 << b.row_bits) & (column.0 < 1u32 << b.column_bits)
 }
 
 // The number of the cell at a row and a column, within the bank.
 fn cell_in_bank_at(b: Bank, row: Row, column: Column) -> u32
     requires { ⌜ Bounded b × (inRange b row column ≡ true) ⌝ }
-    ensures { λ w. ⌜ w ≡ row .0 * 2 ^ b .columns + column .0 ⌝ }
+    ensures { λ w. ⌜ w ≡ row .0 * 2 ^ b .«column_bits» + column .0 ⌝ }
     ensures bound { λ w. ⌜ w < cells b ⌝ }
 {
-    row.0 * (1u32 << b.columns) + column.0
+    row.0 * (1u32 << b.column_bits) + column.0
 }
 
 // The first number from `start` on whose remainder modulo n is w.
@@ -50,11 +51,11 @@ fn address(b: Bank, row: Row, column: Column) -> Origin
     ensures { λ x. ⌜ paperBack x ≡ addressAt b row column ⌝ }
 {
     let d = next_doubleword(
-        b.start << 17,
-        1u32 << (b.rows + b.columns),
+        b.start << MEGABYTE_BITS,
+        1u32 << (b.row_bits + b.column_bits),
         cell_in_bank_at(b, row, column),
     );
-    if d < (b.last + 1) << 17 {
+    if d < (b.last + 1) << MEGABYTE_BITS {
         Origin::Address(d << 3)
     } else {
         Origin::Refused(Refusal::NoAddress)
@@ -65,10 +66,10 @@ fn address(b: Bank, row: Row, column: Column) -> Origin
 pub fn way_back(r: Registers, bank: u32, row: Row, column: Column) -> Origin
     ensures { λ x. ⌜ paperBack x ≡ back (setupOf r) bank row column ⌝ }
 {
-    if !banks::is_ready(r) {
+    if !judging::is_ready(r) {
         return Origin::Refused(Refusal::NotReady);
     }
-    let b = banks::decode_bank(r, bank);
+    let b = judging::decode_bank(r, bank);
     if !b.enabled {
         return Origin::Refused(Refusal::BankOff);
     }

@@ -1,4 +1,5 @@
--- EX-1, EX-2, EX-4 to EX-6, EX-8, EX-9, EX-12: the worked examples marked † in the specification, proved of the definitions in one theorem.
+-- The worked examples that are proved of the definitions: the small list of EX-1, EX-2, EX-4 to EX-6 and EX-8 in one theorem, by computing both sides
+-- and, of EX-8, by the law of the way back; and the lengths of banks, EX-9 and EX-12, in another.
 use mathlib.Core.Path.{_≡_, refl}
 use mathlib.Core.Bool.{true}
 use mathlib.Core.List.{[], _∷_}
@@ -25,6 +26,7 @@ unfolding twoBanks startOf lastOf enabledOf rowCode megabytes rowBits fits colum
     meetsLower lowestMeeting judged ready notReady firstOf first cells spanEnd inRange addressAt back
 no-address = address-none (bank setup 1) (record { 0 = 256 }) (record { 0 = 0 }) refl (omega arith)
 
+-- EX-1, EX-2, EX-4 to EX-6, EX-8
 pub worked-examples :
     (checkOf columns (replicate 8 0) ≡ 0x00)
     × (checkOf columns (0x80 ∷ replicate 7 0) ≡ 0x07)
@@ -38,20 +40,25 @@ pub worked-examples :
     × (mapped setup 0x00200000 ≡ given (some (record { bank = 1; row = record { 0 = 512 }; column = record { 0 = 0 }; cell = 524288 })))
     × (mapped setup 0x00400000 ≡ given (some (record { bank = 1; row = record { 0 = 0 }; column = record { 0 = 0 }; cell = 262144 })))
     × (back setup 1 (record { 0 = 256 }) (record { 0 = 0 }) ≡ refused (17 ∷ []))
-    × (judged (oneBank 0 1 0) ≡ none)
+unfolding bitAt dataBit flipColumn xorOf checkOf bitReading readingOf firstOf first sum twoBanks startOf lastOf enabledOf rowCode megabytes rowBits fits columnLimit columnBits
+    enabledBank bankOf setupOf lowest inverted tooLong faulty faultOf meets meetsLower lowestMeeting judged ready notReady holds bankAt cells cellInBank rowOf columnOf share
+    cellsBelow placeOf inSpan located mapped
+worked-examples = (refl, refl, refl, refl, refl, refl, refl, refl, refl, refl, refl, no-address)
+
+-- EX-9, EX-12: the longest banks, and one of thirteen rows
+pub bank-lengths :
+    (judged (oneBank 0 1 0) ≡ none)
     × (judged (oneBank 0 2 0) ≡ some (13 ∷ 0 ∷ []))
     × (judged (oneBank 0 127 3) ≡ none)
     × (judged (oneBank 0 128 3) ≡ none)
     × (judged (oneBank 0 255 3) ≡ none)
     × (judged (oneBank 0 256 3) ≡ some (13 ∷ 0 ∷ []))
-    × (onlyBank 0 127 3 ≡ record { enabled = true; start = 0; last = 127; rows = 12; columns = 12 })
-    × (onlyBank 0 128 3 ≡ record { enabled = true; start = 0; last = 128; rows = 13; columns = 12 })
-    × (onlyBank 0 255 3 ≡ record { enabled = true; start = 0; last = 255; rows = 13; columns = 12 })
+    × (onlyBank 0 127 3 ≡ record { enabled = true; start = 0; last = 127; «row_bits» = 12; «column_bits» = 12 })
+    × (onlyBank 0 128 3 ≡ record { enabled = true; start = 0; last = 128; «row_bits» = 13; «column_bits» = 12 })
+    × (onlyBank 0 255 3 ≡ record { enabled = true; start = 0; last = 255; «row_bits» = 13; «column_bits» = 12 })
     × (mapped (oneBank 1 256 3) 0x00100000 ≡ given (some (record { bank = 0; row = record { 0 = 32 }; column = record { 0 = 0 }; cell = 131072 })))
     × (mapped (oneBank 1 256 3) 0x0FFFFFFF ≡ given (some (record { bank = 0; row = record { 0 = 8191 }; column = record { 0 = 4095 }; cell = 33554431 })))
     × (mapped (oneBank 1 256 3) 0x100FFFFF ≡ given (some (record { bank = 0; row = record { 0 = 31 }; column = record { 0 = 4095 }; cell = 131071 })))
-unfolding bitAt dataBit flipColumn xorOf checkOf bitReading readingOf firstOf first sum twoBanks oneBank startOf lastOf enabledOf rowCode megabytes
-    rowBits fits columnLimit columnBits enabledBank bankOf setupOf lowest inverted tooLong faulty faultOf meets meetsLower lowestMeeting judged ready notReady holds bankAt cells
-    cellInBank rowOf columnOf share cellsBelow placeOf inSpan located mapped
-worked-examples =
-    (refl, refl, refl, refl, refl, refl, refl, refl, refl, refl, refl, no-address, refl, refl, refl, refl, refl, refl, refl, refl, refl, refl, refl, refl)
+unfolding firstOf first sum oneBank startOf lastOf enabledOf rowCode megabytes rowBits fits columnLimit columnBits enabledBank bankOf setupOf lowest inverted tooLong faulty faultOf
+    meets meetsLower lowestMeeting judged ready notReady holds bankAt cells cellInBank rowOf columnOf share cellsBelow placeOf inSpan located mapped
+bank-lengths = (refl, refl, refl, refl, refl, refl, refl, refl, refl, refl, refl, refl)

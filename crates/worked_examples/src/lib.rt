@@ -1,1 +1,1 @@
-// The worked examples that the specification marks as proved, shown of the definitions; no code.
+// The worked examples that are proved of the definitions; no code.

@@ -9,7 +9,7 @@ use crate::request::{nonzero, Given, Request, State};
 use crate::shrink::{self, Budget};
 use crate::ways::{met, met_bits, Met};
 
-/// Where each call gets what the one before left.
+/// Calls one after the other, each on the state after the last.
 #[derive(Clone)]
 pub struct Case {
     pub record: Record,

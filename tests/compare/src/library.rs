@@ -8,35 +8,35 @@ use mpc106::ffi;
 // lengths that the interface names, and none is kept by the library.
 
 pub fn fresh(record: &mut Record) {
-    unsafe { ffi::mpc106_raw_fresh(&mut record.bytes) }
+    unsafe { ffi::fresh(&mut record.bytes) }
 }
 
 pub fn judge(record: &Record) -> u32 {
-    unsafe { ffi::mpc106_raw_judge(&record.bytes) }
+    unsafe { ffi::judge(&record.bytes) }
 }
 
 pub fn cell_count(record: &Record, count: &mut [u32; 1]) -> u32 {
-    unsafe { ffi::mpc106_raw_cell_count(&record.bytes, count) }
+    unsafe { ffi::cell_count(&record.bytes, count) }
 }
 
 pub fn register_read(record: &Record, offset: u32, value: &mut [u8; 1]) -> u32 {
-    unsafe { ffi::mpc106_raw_register_read(&record.bytes, offset, value) }
+    unsafe { ffi::register_read(&record.bytes, offset, value) }
 }
 
 pub fn register_write(record: &mut Record, offset: u32, value: u8) -> u32 {
-    unsafe { ffi::mpc106_raw_register_write(&mut record.bytes, offset, value) }
+    unsafe { ffi::register_write(&mut record.bytes, offset, value) }
 }
 
 pub fn map(record: &Record, address: u32, place: &mut [u32; 5]) -> u32 {
-    unsafe { ffi::mpc106_raw_map(&record.bytes, address, place) }
+    unsafe { ffi::map(&record.bytes, address, place) }
 }
 
 pub fn way_back(record: &Record, bank: u32, row: u32, column: u32, address: &mut [u32; 1]) -> u32 {
-    unsafe { ffi::mpc106_raw_way_back(&record.bytes, bank, row, column, address) }
+    unsafe { ffi::way_back(&record.bytes, bank, row, column, address) }
 }
 
 pub fn alike(first: &Record, second: &Record, alike: &mut [u32; 1]) -> u32 {
-    unsafe { ffi::mpc106_raw_alike(&first.bytes, &second.bytes, alike) }
+    unsafe { ffi::alike(&first.bytes, &second.bytes, alike) }
 }
 
 pub fn read(
@@ -48,7 +48,7 @@ pub fn read(
 ) -> u32 {
     let (pointer, length) = (buffer.as_mut_ptr(), buffer.len());
     unsafe {
-        ffi::mpc106_raw_read(
+        ffi::read(
             &mut record.bytes,
             cells.as_ptr(),
             cells.len(),
@@ -68,7 +68,7 @@ pub fn write(
     answer: &mut [u32; 5],
 ) -> u32 {
     unsafe {
-        ffi::mpc106_raw_write(
+        ffi::write(
             &mut record.bytes,
             cells.as_mut_ptr(),
             cells.len(),
@@ -82,12 +82,12 @@ pub fn write(
 
 pub fn flip(record: &Record, cells: &mut [u8], address: u32, bit: u32) -> u32 {
     let (pointer, length) = (cells.as_mut_ptr(), cells.len());
-    unsafe { ffi::mpc106_raw_flip(&record.bytes, pointer, length, address, bit) }
+    unsafe { ffi::flip(&record.bytes, pointer, length, address, bit) }
 }
 
 pub fn scrub(record: &mut Record, cells: &mut [u8], address: u32, answer: &mut [u32; 5]) -> u32 {
     let (pointer, length) = (cells.as_mut_ptr(), cells.len());
-    unsafe { ffi::mpc106_raw_scrub(&mut record.bytes, pointer, length, address, answer) }
+    unsafe { ffi::scrub(&mut record.bytes, pointer, length, address, answer) }
 }
 
 pub fn burst_read(
@@ -99,7 +99,7 @@ pub fn burst_read(
 ) -> u32 {
     let (pointer, length) = (buffer.as_mut_ptr(), buffer.len());
     unsafe {
-        ffi::mpc106_raw_burst_read(
+        ffi::burst_read(
             &mut record.bytes,
             cells.as_ptr(),
             cells.len(),
@@ -119,7 +119,7 @@ pub fn burst_write(
     answer: &mut [u32; 5],
 ) -> u32 {
     unsafe {
-        ffi::mpc106_raw_burst_write(
+        ffi::burst_write(
             &mut record.bytes,
             cells.as_mut_ptr(),
             cells.len(),

@@ -10,8 +10,7 @@ use crate::request::{Given, Request, State};
 pub fn ask(state: &mut State, call: &Call) -> Option<Given> {
     let mut given = Given::before(&Request::Listed(call.clone()));
     let (model_record, cells) = state.parts();
-    let mut record = Record::fresh();
-    record.registers = model_record.bytes;
+    let mut record = Record::from_registers(model_record.bytes);
     let result = answered(&mut record, cells, call, given.lent_buffer())?;
     model_record.bytes = record.registers;
     match result {
@@ -54,7 +53,8 @@ fn numbers(answer: &Answer) -> [u32; 5] {
     numbers
 }
 
-/// The kind in the low byte and the bit of a correction in the next.
+/// The kind in the low byte and the bit of a correction in the next. A part that
+/// the library never gives is told apart from all others.
 fn part(kind: Kind) -> u32 {
     match kind {
         Kind::Clean => 1,
@@ -62,5 +62,6 @@ fn part(kind: Kind) -> u32 {
         Kind::Uncorrectable => 3,
         Kind::Stored => 4,
         Kind::NoBank => 5,
+        Kind::Unknown(_) => u32::MAX,
     }
 }

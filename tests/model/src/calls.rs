@@ -51,7 +51,7 @@ pub enum Outcome {
     Answered(Answers),
     /// Of an accepted read: the answers and the bytes put in its buffer.
     Read(Answers, Vec<u8>),
-    /// LIST-9: of a flip only that it was accepted.
+    /// LIST-9: a flip answers nothing more.
     Flipped,
     /// Of an accepted burst read: the answers and bytes in the order of beats.
     BurstRead([Answer; 4], Vec<u8>),
@@ -59,7 +59,7 @@ pub enum Outcome {
     BurstWritten([Answer; 4]),
 }
 
-/// Runs a list; each call gets what the one before left. Register calls give
+/// Runs a list, each call on the state after the last. Register calls give
 /// `None`: they are not compared.
 pub fn run(record: &mut Record, cells: &mut [u8], calls: &[Call]) -> Vec<Option<Outcome>> {
     calls.iter().map(|call| step(record, cells, call)).collect()

@@ -9,13 +9,13 @@ use Rattle.alike.proofs.row.Statement.{statement}
 use Rattle.alike.proofs.row.Tie as tie
 
 sub-result : tie.Need-sub-result
-sub-result c = let b = c .before .args .b in omega (arith, one-shl 32 (b .rows + b .columns) (omega arith), pow-pos (b .rows + b .columns))
+sub-result c = let b = c .before .args .b in omega (arith, one-shl 32 (b .«row_bits» + b .«column_bits») (omega arith), pow-pos (b .«row_bits» + b .«column_bits»))
 
 returns : tie.Need-returns
 unfolding rowOf cellInBank cells
 returns c =
     let a = c .before .before .args in
-    let k = a .b .rows + a .b .columns in
+    let k = a .b .«row_bits» + a .b .«column_bits» in
     rw (one-shl 32 k (omega arith), and-mask (a .address / 8) k)
 
 pub row-spec : {M : Type 1} → statement M

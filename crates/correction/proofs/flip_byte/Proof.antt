@@ -1,4 +1,4 @@
--- `ecc::flip_byte` meets its contract: above 71 there is no flip bit.
+-- ECC-3: above 71 there is no flip bit, and below it is inverted by its mask.
 use borrow.Author.Tests.{lt-ltb, le-ltb}
 use native.Mathlib.Omega.{arith}
 use borrow.Author.Needs.{needs}

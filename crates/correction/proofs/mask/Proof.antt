@@ -1,4 +1,4 @@
--- `ecc::mask` meets its contract.
+-- ECC-3: data bits are counted from the top of their byte and check bits from the low end.
 use mathlib.Core.Path.{sym, _∙_}
 use borrow.Author.Needs.{needs}
 use Rattle.ecc.proofs.FlipLaws.{mask-data, mask-check}

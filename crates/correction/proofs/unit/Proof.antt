@@ -1,3 +1,4 @@
+-- A one that is shifted within the byte is a power of two.
 use native.Mathlib.Omega.{arith}
 use borrow.Author.Needs.{needs}
 use Rattle.basics.proofs.Shifts.{one-shl}

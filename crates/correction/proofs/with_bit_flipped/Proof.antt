@@ -1,3 +1,4 @@
+-- ECC-7: a data bit is inverted at its place in the number; above 63 there is no such byte among the eight.
 use Prim.Native.Nat.{_/_}
 use mathlib.Core.Path.{sym}
 use native.Mathlib.Omega.{arith}

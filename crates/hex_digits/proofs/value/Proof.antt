@@ -1,3 +1,4 @@
+-- `hex_digits::value`: no sum passes 64 bits, by the masks and `values-fit`; what is returned is the value by `digits-some`, and 2^32 by `digits-none`.
 use native.Mathlib.Omega.{arith}
 use Prim.Native.Nat.{_^_, _<_}
 use lib.Bits.{and-le-r}
@@ -40,13 +41,13 @@ returns : tie.Need-returns
 returns c =
     let x = c .before .args .x in
     let room : x < 2 ^ 64 = search needs in
-    digits-some x room (c .if1 .taken)
+    rw (digits-some x room (c .if1 .taken))
 
 returns-2 : tie.Need-returns-2
 returns-2 c =
     let x = c .before .args .x in
     let room : x < 2 ^ 64 = search needs in
-    digits-none x room (c .if1 .left)
+    rw (digits-none x room (c .if1 .left))
 
 pub value-spec : {M : Type 1} → statement M
 value-spec =

@@ -1,77 +1,44 @@
+-- `line::execute_in_place`: without room nothing is done (`no-room`); else what was parsed is what the line asks for (`parsed-line`), and the bytes that
+-- are handed on are a part of those that were parsed (`parsed-fits`).
 use native.Mathlib.Omega.{arith}
-use mathlib.Core.Path.{sym, ap, _∙_}
+use mathlib.Core.Path.{_≡_, sym, _∙_}
 use mathlib.Core.List.{List}
-use Prim.Native.Nat.{ℕ}
+use Prim.Native.Nat.{ℕ, _≤_}
+use lib.ListN.{length}
 use lib.Seq.{length-take-le}
 use Rattle.ecc.specs.Columns.{columns}
 use Rattle.registers.specs.Record.{recordOf}
 use Rattle.calls.specs.State.{state}
-use Rattle.print.proofs.PrintLaws.{malformed-text}
-use Rattle.line.specs.Line.{orMalformed}
-use Rattle.line.proofs.LineLaws.{no-room, line-printed, asked-line}
+use Rattle.parser.specs.declared.request.Parsed.{Parsed}
+use Rattle.parser.specs.CodeParsed.{parsedAs}
+use Rattle.parser.specs.Format.{parse}
+use Rattle.parser.proofs.ParsedLaws.{parsed-fits}
+use Rattle.line.proofs.LineLaws.{no-room, parsed-line}
 use borrow.Author.Needs.{needs}
 use Rattle.line.proofs.execute_in_place.Statement.{statement}
 use Rattle.line.proofs.execute_in_place.Tie as tie
 
+count-fits : (line : List ℕ) (p : Parsed) → p ≡ parsedAs (parse line) → p .count ≤ length (p .bytes)
+count-fits line p e = rw e (parsed-fits (parse line))
+
 returns : tie.Need-returns
 returns c = let a = c .before .before .before .before .args in no-room columns (state (recordOf (a .registers .now)) (a .cells .now)) (a .line .now) (a .out .now) (omega arith)
 
-slice-aggregate-write-line : tie.Need-slice-aggregate-write-line
-slice-aggregate-write-line c =
-    let p = c .before .before .before .before .before .before .before .parse in
-    sym (length-take-le (p .result .count) (p .result .bytes) (p .ensures .1))
+array-share-prefix-bytes : tie.Need-array-share-prefix-bytes
+array-share-prefix-bytes c = let p = c .before .before .before .parse in count-fits _ (p .result) (p .ensures)
+
+slice-aggregate-request-line : tie.Need-slice-aggregate-request-line
+slice-aggregate-request-line c =
+    let p = c .before .before .before .before .parse in
+    sym (length-take-le (p .result .count) (p .result .bytes) (count-fits _ (p .result) (p .ensures)))
 
 returns-2 : tie.Need-returns-2
-unfolding orMalformed
 returns-2 c =
-    let a = c .before .before .before .before .before .before .before .before .before .before .before .args in
-    let p = c .before .before .before .before .before .before .parse in
-    let m = c .before .before .verdict-line in
-    let st = state (recordOf (a .registers .now)) (a .cells .now) in
-    line-printed (m .result) (a .out .now) (m .last .1 .1 .0) _ st _ (omega arith) (m .ensures) (ap (λ (t : List ℕ). (t, st)) malformed-text)
-    ∙ asked-line columns st (a .line .now) (a .out .now) (p .result) _ (omega arith) (p .ensures .0) (c .before .before .before .before .enum-told .given .1)
-
-returns-3 : tie.Need-returns-3
-unfolding orMalformed
-returns-3 c =
-    let a = c .before .before .before .before .before .before .before .before .before .before .before .before .before .args in
-    let p = c .before .before .before .before .before .before .before .before .parse in
-    (c .before .before .register-write-line .ensures (a .cells .now)) ∙ asked-line columns (state (recordOf (a .registers .now)) (a .cells .now)) (a .line .now) (a .out .now) (p .result) _ (omega arith) (p .ensures .0) (c .before .before .before .before .before .before .request .given .1)
-
-returns-4 : tie.Need-returns-4
-unfolding orMalformed
-returns-4 c =
-    let a = c .before .before .before .before .before .before .before .before .before .before .before .before .before .args in
-    let p = c .before .before .before .before .before .before .before .before .parse in
-    (c .before .before .register-read-line .ensures (a .cells .now)) ∙ asked-line columns (state (recordOf (a .registers .now)) (a .cells .now)) (a .line .now) (a .out .now) (p .result) _ (omega arith) (p .ensures .0) (c .before .before .before .before .before .before .request2 .given .1)
-
-returns-5 : tie.Need-returns-5
-unfolding orMalformed
-returns-5 c =
-    let a = c .before .before .before .before .before .before .before .before .before .before .before .before .before .before .before .before .before .before .args in
-    let p = c .before .before .before .before .before .before .before .before .before .before .before .before .before .parse in
-    c .before .before .before .before .write-line .ensures ∙ asked-line columns (state (recordOf (a .registers .now)) (a .cells .now)) (a .line .now) (a .out .now) (p .result) _ (omega arith) (p .ensures .0) (c .before .before .before .before .before .before .before .before .before .before .before .request3 .given .1)
-
-returns-6 : tie.Need-returns-6
-unfolding orMalformed
-returns-6 c =
-    let a = c .before .before .before .before .before .before .before .before .before .before .before .before .before .before .args in
-    let p = c .before .before .before .before .before .before .before .before .before .parse in
-    c .before .before .read-line .ensures ∙ asked-line columns (state (recordOf (a .registers .now)) (a .cells .now)) (a .line .now) (a .out .now) (p .result) _ (omega arith) (p .ensures .0) (c .before .before .before .before .before .before .before .request4 .given .1)
-
-returns-7 : tie.Need-returns-7
-unfolding orMalformed
-returns-7 c =
-    let a = c .before .before .before .before .before .before .before .before .before .before .before .before .before .before .before .before .args in
-    let p = c .before .before .before .before .before .before .before .before .before .before .before .parse in
-    c .before .before .before .before .flip-line .ensures ∙ asked-line columns (state (recordOf (a .registers .now)) (a .cells .now)) (a .line .now) (a .out .now) (p .result) _ (omega arith) (p .ensures .0) (c .before .before .before .before .before .before .before .before .before .request5 .given .1)
-
-returns-8 : tie.Need-returns-8
-unfolding orMalformed
-returns-8 c =
-    let a = c .before .before .before .before .before .before .before .before .before .before .before .before .before .before .before .before .args in
-    let p = c .before .before .before .before .before .before .before .before .before .before .before .parse in
-    c .before .before .before .before .scrub-line .ensures ∙ asked-line columns (state (recordOf (a .registers .now)) (a .cells .now)) (a .line .now) (a .out .now) (p .result) _ (omega arith) (p .ensures .0) (c .before .before .before .before .before .before .before .before .before .request6 .given .1)
+    let request = c .before .before .before .before in
+    let parsed = request .before .before .before .before .before .before in
+    let a = parsed .before .before .before .before .before .args in
+    request .request-line .ensures
+    ∙ parsed-line columns (state (recordOf (a .registers .now)) (a .cells .now)) (a .line .now) (a .out .now) (parsed .parse .result) (omega arith) (parsed .parse .ensures)
 
 pub execute-in-place-spec : {M : Type 1} → statement M
 execute-in-place-spec =
@@ -79,37 +46,9 @@ execute-in-place-spec =
     (tie.spec
     returns
     (λ c κs. search needs)
-    (λ c. search needs)
-    (λ c κs. search needs)
-    (λ c. search needs)
-    (λ c κs. search needs)
-    (λ c. search needs)
+    array-share-prefix-bytes
+    slice-aggregate-request-line
     (λ c κs. search needs)
     (λ c. search needs)
     (λ c. search needs)
-    slice-aggregate-write-line
-    (λ c κs. search needs)
-    (λ c. search needs)
-    (λ c κs. search needs)
-    (λ c. search needs)
-    (λ c κs. search needs)
-    (λ c. search needs)
-    (λ c κs. search needs)
-    (λ c. search needs)
-    returns-2
-    (λ c. search needs)
-    returns-3
-    (λ c. search needs)
-    returns-4
-    (λ c. search needs)
-    (λ c. search needs)
-    returns-5
-    (λ c. search needs)
-    (λ c. search needs)
-    returns-6
-    (λ c. search needs)
-    (λ c. search needs)
-    returns-7
-    (λ c. search needs)
-    (λ c. search needs)
-    returns-8)
+    returns-2)

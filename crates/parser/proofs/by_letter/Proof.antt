@@ -1,50 +1,80 @@
-use mathlib.Core.Path.{_∙_}
+-- `parser::by_letter`: the tests that led to an answer decide `byLetter`; an answer without bytes is the whole of it by `bare-asked`.
 use lib.ListN.{getD}
 use borrow.Author.Tests.{eq-eqb, ne-eqb}
 use Rattle.parser.specs.Format.{byLetter}
+use Rattle.parser.proofs.ParsedLaws.{bare-asked}
 use borrow.Author.Needs.{needs}
 use Rattle.parser.proofs.by_letter.Statement.{statement}
 use Rattle.parser.proofs.by_letter.Tie as tie
 
 returns : tie.Need-returns
 unfolding byLetter
-returns c = let l = getD (c .before .before .before .before .before .args .line .now) 0 0 in (c .bare .ensures .0 ∙ rw (eq-eqb l 0x63 (c .before .before .if1 .taken)) (c .before .parse-register-write .ensures), c .bare .ensures .1)
+returns c =
+    let if-c = c .before .before in
+    let letter = getD (if-c .before .before .before .args .line .now) 0 0 in
+    bare-asked _ _ _ (c .bare .ensures) (rw (eq-eqb letter 0x63 (if-c .if1 .taken)) (c .before .parse-register-write .ensures))
 
 returns-2 : tie.Need-returns-2
 unfolding byLetter
 returns-2 c =
-    let l = getD (c .before .before .before .before .before .before .args .line .now) 0 0 in
-    (c .bare2 .ensures .0 ∙ rw (ne-eqb l 0x63 (c .before .before .before .if1 .left), eq-eqb l 0x67 (c .before .before .if2 .taken)) (c .before .parse-register-read .ensures), c .bare2 .ensures .1)
+    let if-g = c .before .before in
+    let if-c = if-g .before in
+    let letter = getD (if-c .before .before .before .args .line .now) 0 0 in
+    bare-asked _ _ _ (c .bare2 .ensures) (rw (ne-eqb letter 0x63 (if-c .if1 .left), eq-eqb letter 0x67 (if-g .if2 .taken)) (c .before .parse-register-read .ensures))
 
 returns-3 : tie.Need-returns-3
 unfolding byLetter
 returns-3 c =
-    let l = getD (c .before .before .before .before .before .before .args .line .now) 0 0 in
-    (rw (ne-eqb l 0x63 (c .before .before .before .if1 .left), ne-eqb l 0x67 (c .before .before .if2 .left), eq-eqb l 0x77 (c .before .if3 .taken)) (c .parse-write .ensures .0), c .parse-write .ensures .1)
+    let if-w = c .before in
+    let if-g = if-w .before in
+    let if-c = if-g .before in
+    let letter = getD (if-c .before .before .before .args .line .now) 0 0 in
+    rw (ne-eqb letter 0x63 (if-c .if1 .left), ne-eqb letter 0x67 (if-g .if2 .left), eq-eqb letter 0x77 (if-w .if3 .taken)) (c .parse-write .ensures)
 
 returns-4 : tie.Need-returns-4
 unfolding byLetter
 returns-4 c =
-    let l = getD (c .before .before .before .before .before .before .before .before .args .line .now) 0 0 in
-    (c .bare3 .ensures .0 ∙ rw (ne-eqb l 0x63 (c .before .before .before .before .before .if1 .left), ne-eqb l 0x67 (c .before .before .before .before .if2 .left), ne-eqb l 0x77 (c .before .before .before .if3 .left), eq-eqb l 0x72 (c .before .before .if4 .taken)) (c .before .parse-read .ensures), c .bare3 .ensures .1)
+    let if-r = c .before .before in
+    let if-w = if-r .before in
+    let if-g = if-w .before in
+    let if-c = if-g .before in
+    let letter = getD (if-c .before .before .before .args .line .now) 0 0 in
+    bare-asked _ _ _ (c .bare3 .ensures) (rw (ne-eqb letter 0x63 (if-c .if1 .left), ne-eqb letter 0x67 (if-g .if2 .left), ne-eqb letter 0x77 (if-w .if3 .left), eq-eqb letter 0x72 (if-r .if4 .taken)) (c .before .parse-read .ensures))
 
 returns-5 : tie.Need-returns-5
 unfolding byLetter
 returns-5 c =
-    let l = getD (c .before .before .before .before .before .before .before .before .before .args .line .now) 0 0 in
-    (c .bare4 .ensures .0 ∙ rw (ne-eqb l 0x63 (c .before .before .before .before .before .before .if1 .left), ne-eqb l 0x67 (c .before .before .before .before .before .if2 .left), ne-eqb l 0x77 (c .before .before .before .before .if3 .left), ne-eqb l 0x72 (c .before .before .before .if4 .left), eq-eqb l 0x66 (c .before .before .if5 .taken)) (c .before .parse-flip .ensures), c .bare4 .ensures .1)
+    let if-f = c .before .before in
+    let if-r = if-f .before in
+    let if-w = if-r .before in
+    let if-g = if-w .before in
+    let if-c = if-g .before in
+    let letter = getD (if-c .before .before .before .args .line .now) 0 0 in
+    bare-asked _ _ _ (c .bare4 .ensures) (rw (ne-eqb letter 0x63 (if-c .if1 .left), ne-eqb letter 0x67 (if-g .if2 .left), ne-eqb letter 0x77 (if-w .if3 .left), ne-eqb letter 0x72 (if-r .if4 .left), eq-eqb letter 0x66 (if-f .if5 .taken)) (c .before .parse-flip .ensures))
 
 returns-6 : tie.Need-returns-6
 unfolding byLetter
 returns-6 c =
-    let l = getD (c .before .before .before .before .before .before .before .before .before .before .args .line .now) 0 0 in
-    (c .bare5 .ensures .0 ∙ rw (ne-eqb l 0x63 (c .before .before .before .before .before .before .before .if1 .left), ne-eqb l 0x67 (c .before .before .before .before .before .before .if2 .left), ne-eqb l 0x77 (c .before .before .before .before .before .if3 .left), ne-eqb l 0x72 (c .before .before .before .before .if4 .left), ne-eqb l 0x66 (c .before .before .before .if5 .left), eq-eqb l 0x73 (c .before .before .if6 .taken)) (c .before .parse-scrub .ensures), c .bare5 .ensures .1)
+    let if-s = c .before .before in
+    let if-f = if-s .before in
+    let if-r = if-f .before in
+    let if-w = if-r .before in
+    let if-g = if-w .before in
+    let if-c = if-g .before in
+    let letter = getD (if-c .before .before .before .args .line .now) 0 0 in
+    bare-asked _ _ _ (c .bare5 .ensures) (rw (ne-eqb letter 0x63 (if-c .if1 .left), ne-eqb letter 0x67 (if-g .if2 .left), ne-eqb letter 0x77 (if-w .if3 .left), ne-eqb letter 0x72 (if-r .if4 .left), ne-eqb letter 0x66 (if-f .if5 .left), eq-eqb letter 0x73 (if-s .if6 .taken)) (c .before .parse-scrub .ensures))
 
 returns-7 : tie.Need-returns-7
 unfolding byLetter
 returns-7 c =
-    let l = getD (c .before .before .before .before .before .before .before .before .before .args .line .now) 0 0 in
-    (rw (ne-eqb l 0x63 (c .before .before .before .before .before .before .if1 .left), ne-eqb l 0x67 (c .before .before .before .before .before .if2 .left), ne-eqb l 0x77 (c .before .before .before .before .if3 .left), ne-eqb l 0x72 (c .before .before .before .if4 .left), ne-eqb l 0x66 (c .before .before .if5 .left), ne-eqb l 0x73 (c .before .if6 .left)) (c .malformed .ensures .0), c .malformed .ensures .1)
+    let if-s = c .before in
+    let if-f = if-s .before in
+    let if-r = if-f .before in
+    let if-w = if-r .before in
+    let if-g = if-w .before in
+    let if-c = if-g .before in
+    let letter = getD (if-c .before .before .before .args .line .now) 0 0 in
+    rw (ne-eqb letter 0x63 (if-c .if1 .left), ne-eqb letter 0x67 (if-g .if2 .left), ne-eqb letter 0x77 (if-w .if3 .left), ne-eqb letter 0x72 (if-r .if4 .left), ne-eqb letter 0x66 (if-f .if5 .left), ne-eqb letter 0x73 (if-s .if6 .left)) (c .malformed .ensures)
 
 pub by-letter-spec : {M : Type 1} → statement M
 by-letter-spec =

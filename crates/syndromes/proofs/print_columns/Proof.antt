@@ -1,3 +1,4 @@
+-- The loop ends after the 72 flip bits.
 use Prim.Native.Nat.{_-_, _≤_}
 use native.Mathlib.Omega.{arith}
 use borrow.Author.Needs.{needs}

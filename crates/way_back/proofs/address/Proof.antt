@@ -16,7 +16,7 @@ unfolding cells
 next-doubleword-requires c κs =
     let s = c .before .before .before in
     let b = s .args .b in
-    rw (one-shl 32 (b .rows + b .columns) (omega arith)) (omega arith, cells-most b (s .pre .0), c .cell-in-bank-at .ensures .1)
+    rw (one-shl 32 (b .«row_bits» + b .«column_bits») (omega arith)) (omega arith, cells-most b (s .pre .0), c .cell-in-bank-at .ensures .1)
 
 returns : tie.Need-returns
 unfolding spanEnd cells
@@ -25,7 +25,7 @@ returns c =
     let h = c .before .before .before .before .before .before .pre .1 in
     let d = c .before .before .next-doubleword .result in
     let s : a .b .start * 2 ^ 17 % 2 ^ 32 ≡ a .b .start * 2 ^ 17 = omega arith in
-    let e : d ≡ doublewordFor (a .b) (cellInBankAt (a .b) (a .row) (a .column)) = simp (s, one-shl 32 (a .b .rows + a .b .columns) (omega arith), c .before .before .before .cell-in-bank-at .ensures .0) at (c .before .before .next-doubleword .ensures .0) in
+    let e : d ≡ doublewordFor (a .b) (cellInBankAt (a .b) (a .row) (a .column)) = simp (s, one-shl 32 (a .b .«row_bits» + a .b .«column_bits») (omega arith), c .before .before .before .cell-in-bank-at .ensures .0) at (c .before .before .next-doubleword .ensures .0) in
     let u : d * 2 ^ 3 % 2 ^ 32 ≡ 8 * d = omega arith in
     let l : d < (a .b .last + 1) * 2 ^ 17 = omega arith in
     ap given (u ∙ ap (λ (x : ℕ). 8 * x) e) ∙ sym (address-given (a .b) (a .row) (a .column) h (rw e at l))
@@ -37,7 +37,7 @@ returns-2 c =
     let h = c .before .before .before .before .before .before .pre .1 in
     let d = c .before .before .next-doubleword .result in
     let s : a .b .start * 2 ^ 17 % 2 ^ 32 ≡ a .b .start * 2 ^ 17 = omega arith in
-    let e : d ≡ doublewordFor (a .b) (cellInBankAt (a .b) (a .row) (a .column)) = simp (s, one-shl 32 (a .b .rows + a .b .columns) (omega arith), c .before .before .before .cell-in-bank-at .ensures .0) at (c .before .before .next-doubleword .ensures .0) in
+    let e : d ≡ doublewordFor (a .b) (cellInBankAt (a .b) (a .row) (a .column)) = simp (s, one-shl 32 (a .b .«row_bits» + a .b .«column_bits») (omega arith), c .before .before .before .cell-in-bank-at .ensures .0) at (c .before .before .next-doubleword .ensures .0) in
     let l : (a .b .last + 1) * 2 ^ 17 ≤ d = omega arith in
     sym (address-none (a .b) (a .row) (a .column) h (rw e at l))
 

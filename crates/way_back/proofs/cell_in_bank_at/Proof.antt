@@ -15,26 +15,26 @@ use borrow.Author.Needs.{needs}
 use Rattle.way_back.proofs.cell_in_bank_at.Statement.{statement}
 use Rattle.way_back.proofs.cell_in_bank_at.Tie as tie
 
-small : (b : Bank) (row : Row) (column : Column) → Bounded b → inRange b row column ≡ true → row .0 * 2 ^ b .columns + column .0 < mostCells
+small : (b : Bank) (row : Row) (column : Column) → Bounded b → inRange b row column ≡ true → row .0 * 2 ^ b .«column_bits» + column .0 < mostCells
 small b row column h t = omega (arith, cell-in-bank-below b row column t, cells-most b h)
 
 mul-result : tie.Need-mul-result
 mul-result c =
     let s = c .before .before in
     let a = s .args in
-    rw (one-shl 32 (a .b .columns) (omega arith)) (omega (arith, small (a .b) (a .row) (a .column) (s .pre .0) (s .pre .1)))
+    rw (one-shl 32 (a .b .«column_bits») (omega arith)) (omega (arith, small (a .b) (a .row) (a .column) (s .pre .0) (s .pre .1)))
 
 add-result : tie.Need-add-result
 add-result c =
     let s = c .before .before .before in
     let a = s .args in
-    rw (one-shl 32 (a .b .columns) (omega arith)) (omega (arith, small (a .b) (a .row) (a .column) (s .pre .0) (s .pre .1)))
+    rw (one-shl 32 (a .b .«column_bits») (omega arith)) (omega (arith, small (a .b) (a .row) (a .column) (s .pre .0) (s .pre .1)))
 
 returns : tie.Need-returns
 returns c =
     let s = c .before .before .before in
     let a = s .args in
-    let e = one-shl 32 (a .b .columns) (omega arith) in
+    let e = one-shl 32 (a .b .«column_bits») (omega arith) in
     (rw e, rw e (cell-in-bank-below (a .b) (a .row) (a .column) (s .pre .1)))
 
 pub cell-in-bank-at-spec : {M : Type 1} → statement M

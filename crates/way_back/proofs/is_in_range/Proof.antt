@@ -7,7 +7,7 @@ use Rattle.way_back.proofs.is_in_range.Tie as tie
 
 returns : tie.Need-returns
 unfolding inRange
-returns c = let b = c .before .before .before .before .args .b in rw (one-shl 32 (b .rows) (omega arith), one-shl 32 (b .columns) (omega arith))
+returns c = let b = c .before .before .before .before .args .b in rw (one-shl 32 (b .«row_bits») (omega arith), one-shl 32 (b .«column_bits») (omega arith))
 
 pub is-in-range-spec : {M : Type 1} → statement M
 is-in-range-spec = tie.close (tie.spec (λ c. search needs) (λ c. search needs) returns)

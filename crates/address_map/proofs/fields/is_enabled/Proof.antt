@@ -1,10 +1,8 @@
-use Prim.Native.Nat.{ℕ, _/_, _^_}
-use mathlib.Core.Path.{sym, ap, _∙_}
-use native.Mathlib.Omega.{arith}
+-- The enable bit of a bank is that of `setupBy`, by `and-mask` and `enabled-is`.
+use Prim.Native.Nat.{_/_, _%_, _^_}
 use lib.Bits.{and-mask}
-use lib.Dec.{eqb}
 use lib.ListN.{getD}
-use Rattle.address_map.proofs.PassLaws.{enabled-at}
+use Rattle.address_map.proofs.PassLaws.{enabled-is}
 use borrow.Author.Needs.{needs}
 use Rattle.address_map.proofs.fields.is_enabled.Statement.{statement}
 use Rattle.address_map.proofs.fields.is_enabled.Tie as tie
@@ -13,7 +11,7 @@ returns : tie.Need-returns
 returns c =
     let a = c .before .args in
     let f = a .fields .now in
-    ap (λ (x : ℕ). eqb x 1) (and-mask (getD f 16 0 / 2 ^ a .n) 1) ∙ sym (enabled-at f (a .n) (omega arith))
+    rw (and-mask (getD f 16 0 / 2 ^ (a .n % 8)) 1) (enabled-is f (a .n))
 
 pub is-enabled-spec : {M : Type 1} → statement M
-is-enabled-spec = tie.close (tie.spec (λ c. search needs) (λ c. search needs) returns)
+is-enabled-spec = tie.close (tie.spec (λ c. search needs) (λ c. search needs) (λ c. search needs) returns)

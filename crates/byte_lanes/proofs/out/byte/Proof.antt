@@ -1,3 +1,4 @@
+-- `byte` gives one byte of a doubleword (number-at of DoublewordLaws).
 use mathlib.Core.Path.{sym}
 use Rattle.ecc.proofs.DoublewordLaws.{number-at}
 use borrow.Author.Needs.{needs}

@@ -1,3 +1,4 @@
+-- `copy_across` fills the buffer with the bytes of the number that `number_across` makes of the two doublewords.
 use mathlib.Core.Path.{ap, _∙_}
 use borrow.Author.Tests.{le-leb, lt-leb}
 use lib.ListN.{length, take}
@@ -12,8 +13,11 @@ returns c = rw (lt-leb _ 8 (c .if1 .taken))
 returns-2 : tie.Need-returns-2
 unfolding bytesOfNumber
 returns-2 c =
-    let n = length (c .before .before .before .before .before .before .before .args .buffer .now) in
-    rw (le-leb n 8 (c .before .before .before .before .before .if1 .left)) (c .before .before .copy-from .ensures ∙ ap (take n) (c .before .before .before .before .number-across .ensures))
+    let copied = c .before .before in
+    let made = copied .before .before in
+    let few = made .before in
+    let n = length (few .before .before .args .buffer .now) in
+    rw (le-leb n 8 (few .if1 .left)) (copied .copy-from .ensures ∙ ap (take n) (made .number-across .ensures))
 
 pub copy-across-spec : {M : Type 1} → statement M
 copy-across-spec =

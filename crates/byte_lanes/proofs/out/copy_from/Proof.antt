@@ -1,3 +1,5 @@
+-- `copy_from` fills the buffer from a byte of a doubleword on. Eight bytes are a run of stores (all-stored of ListLaws); for fewer the loop's invariant says
+-- that i of them are there (paste of lib.Seq, one more by paste-suc).
 use mathlib.Core.Path.{_≡_, refl, sym, _∙_}
 use mathlib.Core.List.{append-nil}
 use Prim.Native.Nat.{_-_, _≤_}
@@ -6,8 +8,10 @@ use native.Mathlib.Numerals.{add-one}
 use native.Mathlib.Omega.{arith}
 use lib.ListN.{length, drop, length-set, length-drop}
 use lib.Seq.{paste, paste-zero, paste-suc, getD-drop, drop-length, take-all}
+use Rattle.basics.proofs.ListLaws.{all-stored}
 use Rattle.ecc.specs.Doubleword.{bytesOfNumber}
 use Rattle.ecc.proofs.DoublewordLaws.{number-length}
+use borrow.Author.Needs.{needs}
 use Rattle.byte_lanes.proofs.out.copy_from.Statement.{statement}
 use Rattle.byte_lanes.proofs.out.copy_from.Tie as tie
 
@@ -17,19 +21,23 @@ Inv-loop doubleword offset buffer₀ i₀ buffer i = (i ≤ length buffer) × (l
 abbrev μ-loop : tie.MeasureT-loop
 μ-loop doubleword offset buffer₀ i₀ buffer i = length buffer - i
 
-copy-all-requires : tie.Need-copy-all-requires Inv-loop μ-loop
-copy-all-requires c κs = c .before .if1 .taken
+copy-eight-requires : tie.Need-copy-eight-requires Inv-loop μ-loop
+copy-eight-requires c κs = omega arith
 
 same-length : tie.Need-same-length Inv-loop μ-loop
-same-length c = omega (arith, number-length (c .before .before .before .before .before .before .args .doubleword))
+same-length c = search needs
 
 -- eight bytes from an offset on are all, from 0 on
 returns : tie.Need-returns Inv-loop μ-loop
 returns c =
-    let a = c .before .before .before .before .before .before .args in
-    let n : length (a .buffer .now) ≡ 8 = c .before .before .before .before .if1 .taken in
+    let copied = c .before .before in
+    let eight = copied .before .before in
+    let a = eight .before .before .args in
+    let bytes = bytesOfNumber (a .doubleword) in
+    let n : length (a .buffer .now) ≡ 8 = eight .if1 .taken in
     let z : a .offset ≡ 0 = omega arith in
-    c .before .before .copy-all .ensures ∙ rw (n, z) (sym (take-all 8 (bytesOfNumber (a .doubleword)) (omega (arith, number-length (a .doubleword)))))
+    let all = number-length (a .doubleword) in
+    copied .copy-eight .ensures ∙ all-stored (a .buffer .now) bytes (omega arith) ∙ rw (n, z) (sym (take-all 8 bytes (omega arith)))
 
 loop-holds : tie.Need-loop-holds Inv-loop μ-loop
 loop-holds c =
@@ -53,8 +61,9 @@ loop-less c = simp length-set (omega arith)
 
 loop-again : tie.Need-loop-again Inv-loop μ-loop
 loop-again c =
-    let l = c .before .before .loop in
-    let a = c .before .before .before .before .before .args in
+    let turn = c .before .before in
+    let l = turn .loop in
+    let a = turn .before .before .before .args in
     let d = bytesOfNumber (a .doubleword) in
     let s = drop (a .offset) d in
     let p = paste-suc (a .buffer .now) 0 s (l .i) 0 (omega arith) (simp length-drop (omega (arith, number-length (a .doubleword)))) in (
@@ -68,8 +77,9 @@ same-length-2 c = omega arith
 
 returns-2 : tie.Need-returns-2 Inv-loop μ-loop
 returns-2 c =
-    let l = c .before .loop in
-    let a = c .before .before .before .before .args in
+    let turn = c .before in
+    let l = turn .loop in
+    let a = turn .before .before .before .args in
     let e : l .i ≡ length (a .buffer .now) = omega arith in
     l .inv .2 ∙ rw e (simp (zero-add, drop-length) (append-nil _))
 
@@ -79,7 +89,7 @@ copy-from-spec =
     (tie.spec
     Inv-loop
     μ-loop
-    copy-all-requires
+    copy-eight-requires
     same-length
     returns
     loop-holds

@@ -1,29 +1,35 @@
-use mathlib.Core.Path.{sym, _∙_}
+-- `copy_out` fills the buffer where the read stays in its doubleword: its test is that of `crosses`, with the byte of the address on the other side.
+use Prim.Native.Nat.{_+_, _%_}
 use native.Mathlib.Omega.{arith}
 use lib.ListN.{length}
-use Rattle.calls.proofs.SplitLaws.{inside-fits}
+use borrow.Author.Tests.{lt-ltb}
+use Rattle.calls.specs.Calls.{crosses}
+use Rattle.calls.proofs.SplitLaws.{fits-inside}
 use borrow.Author.Needs.{needs}
 use Rattle.byte_lanes.proofs.out.copy_out.Statement.{statement}
 use Rattle.byte_lanes.proofs.out.copy_out.Tie as tie
 
 returns : tie.Need-returns
-returns c = rw (sym (c .before .crosses-end .ensures) ∙ c .if1 .taken)
-
-copy-from-requires : tie.Need-copy-from-requires
-copy-from-requires c κs =
-    let a = c .before .before .before .before .args in
-    omega (arith, inside-fits (a .address) (length (a .buffer .now)) (sym (c .before .before .crosses-end .ensures) ∙ c .before .if1 .left))
+unfolding crosses
+returns c =
+    let a = c .before .before .args in
+    rw (lt-ltb 8 (a .address % 8 + length (a .buffer .now)) (omega (arith, c .if1 .taken)))
 
 returns-2 : tie.Need-returns-2
-returns-2 c = rw (sym (c .before .before .before .before .before .crosses-end .ensures) ∙ c .before .before .before .before .if1 .left) (c .before .before .copy-from .ensures)
+returns-2 c =
+    let copied = c .before .before in
+    let inside = copied .before .before in
+    let a = inside .before .before .args in
+    rw (fits-inside (a .address) (length (a .buffer .now)) (omega (arith, inside .if1 .left))) (copied .copy-from .ensures)
 
 pub copy-out-spec : {M : Type 1} → statement M
 copy-out-spec =
     tie.close
     (tie.spec
-    (λ c κs. search needs)
+    (λ c. search needs)
+    (λ c. search needs)
     returns
     (λ c. search needs)
-    copy-from-requires
+    (λ c κs. search needs)
     (λ c. search needs)
     returns-2)

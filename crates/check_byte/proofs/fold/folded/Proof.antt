@@ -1,3 +1,4 @@
+-- The rotation is that of the definition.
 use Rattle.check_byte.specs.CodeFold.{folded}
 use borrow.Author.Needs.{needs}
 use Rattle.check_byte.proofs.fold.folded.Statement.{statement}

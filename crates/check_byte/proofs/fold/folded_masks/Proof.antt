@@ -1,3 +1,4 @@
+-- The masks and folds of the code are those of the definition, one by one.
 use Rattle.check_byte.specs.CodeFold.{foldedMasks}
 use borrow.Author.Needs.{needs}
 use Rattle.check_byte.proofs.fold.folded_masks.Statement.{statement}

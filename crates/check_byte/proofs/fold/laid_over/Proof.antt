@@ -1,3 +1,4 @@
+-- The eight bytes are laid over each other in three steps.
 use Rattle.check_byte.specs.CodeFold.{laidOver}
 use borrow.Author.Needs.{needs}
 use Rattle.check_byte.proofs.fold.laid_over.Statement.{statement}

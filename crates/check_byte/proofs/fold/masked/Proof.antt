@@ -1,3 +1,4 @@
+-- The code is the definition.
 use mathlib.Core.Path.{refl}
 use Rattle.check_byte.specs.CodeFold.{masked}
 use Rattle.check_byte.proofs.fold.masked.Statement.{statement}

@@ -1,3 +1,4 @@
+-- The code is the definition; the shift is a division.
 use mathlib.Core.Path.{refl}
 use Rattle.check_byte.specs.CodeFold.{overShifted}
 use borrow.Author.Needs.{needs}

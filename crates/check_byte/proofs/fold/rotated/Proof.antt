@@ -1,3 +1,4 @@
+-- The two parts have no bit in common, so that `|` joins them as the definition does.
 use native.Mathlib.Omega.{arith}
 use Rattle.check_byte.proofs.FoldLaws.{rotated-or}
 use borrow.Author.Needs.{needs}

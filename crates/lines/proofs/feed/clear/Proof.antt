@@ -4,7 +4,8 @@ use mathlib.Core.Path.{_≡_, refl, _∙_}
 use mathlib.Core.List.{_++_, append-nil}
 use lib.ListN.{length, drop, length-set}
 use lib.Seq.{drop-length}
-use Rattle.lines.proofs.StepLaws.{zeros, clear-next}
+use Rattle.parser.proofs.PaddedLaws.{zeros}
+use Rattle.lines.proofs.StepLaws.{clear-next}
 use Rattle.lines.proofs.feed.clear.Statement.{statement}
 use Rattle.lines.proofs.feed.clear.Tie as tie
 

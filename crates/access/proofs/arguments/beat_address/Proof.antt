@@ -1,0 +1,14 @@
+use native.Mathlib.Omega.{arith}
+use borrow.Author.Needs.{needs}
+use Rattle.calls.specs.Calls.{beatAddress}
+use Rattle.access.proofs.arguments.beat_address.Statement.{statement}
+use Rattle.access.proofs.arguments.beat_address.Tie as tie
+
+returns : tie.Need-returns
+unfolding beatAddress
+returns c = omega arith
+
+pub beat-address-spec : {M : Type 1} → statement M
+beat-address-spec =
+    tie.close
+    (tie.spec (λ c. search needs) (λ c. search needs) (λ c. search needs) (λ c. search needs) returns)

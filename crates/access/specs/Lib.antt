@@ -1,0 +1,2 @@
+pub mod CodeAccess
+pub mod CodeTargets

@@ -1,2 +1,0 @@
-pub mod CodeReading
-pub mod CodeFetched

@@ -1,0 +1,11 @@
+use Rattle.mpc106.proofs.AnswerLaws.{flip-of}
+use borrow.Author.Needs.{needs}
+use Rattle.mpc106.proofs.mpc106_v4_flip.Statement.{statement}
+use Rattle.mpc106.proofs.mpc106_v4_flip.Tie as tie
+
+returns : tie.Need-returns
+returns c = let d = c .before .before .before .flip-in-place in flip-of (d .result) (d .ensures) (c .of-verdict .ensures)
+
+pub mpc106-v4-flip-spec : {M : Type 1} → statement M
+mpc106-v4-flip-spec =
+    tie.close (tie.spec (λ c κs. search needs) (λ c κs. search needs) (λ c. search needs) returns)

@@ -1,4 +1,0 @@
-pub mod LentLaws
-pub mod BoundLaws
-pub mod JudgeLaws
-pub mod SplitLaws
