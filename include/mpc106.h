@@ -38,7 +38,7 @@
  *   cells    the memory's own bytes, nine for each doubleword of 8 bytes: eight data bytes, then the
  *            check byte. Cell k starts at 9 * k; mpc106_map gives the cell of an address. Nine zero
  *            bytes are a valid cell that holds zeros. mpc106_cell_count says how many a set-up needs. If fewer
- *            are lent, calls that need a higher cell get refusal 9. Bytes behind the last whole cell are
+ *            are lent, calls that need a higher cell get refusal 9. Bytes after the last whole cell are
  *            ignored.
  *   Pointers must not be null, not even with a length of 0, and what a call may change must not overlap anything
  *   else that the call is lent.

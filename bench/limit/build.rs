@@ -39,7 +39,7 @@ fn check(columns: &[u8]) -> Vec<u8> {
     (0..8 * 256).map(|i| of_byte(i / 256, i % 256)).collect()
 }
 
-/// SPLIT_CHECK: the same for a byte of two doublewords one behind the other, `i / 256` being its place in both; the check byte of the second is in
+/// SPLIT_CHECK: the same for a byte of two doublewords one after the other, `i / 256` being its place in both; the check byte of the second is in
 /// the high byte.
 fn split_check(check: &[u8]) -> Vec<u16> {
     let first = check.iter().map(|&byte| u16::from(byte));

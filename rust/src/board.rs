@@ -9,7 +9,7 @@ use core::fmt;
 pub struct LoadError {
     /// How many bytes of the image are stored, the first ones.
     pub stored: usize,
-    /// What the write behind them gave: a refusal, or the kind of an answer that stored nothing.
+    /// What the write after them gave: a refusal, or the kind of an answer that stored nothing.
     pub given: Result<Kind, Refusal>,
 }
 

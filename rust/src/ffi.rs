@@ -8,7 +8,7 @@
 //!
 //! # Safety
 //!
-//! Each pointer must point to as many bytes as the length behind it says, and nothing that a call may change may overlap
+//! Each pointer must point to as many bytes as the length after it says, and nothing that a call may change may overlap
 //! anything else that it is lent.
 
 /// Declares functions by a short name. In the archive `mpc106_vN_` stands before it, where N is the major version, here

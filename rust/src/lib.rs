@@ -7,7 +7,7 @@
 //! library never gives is no refusal: it has [`Kind::Unknown`].
 //!
 //! With fewer cells than [`Record::cell_count`] returns, memory calls to a higher cell get [`Refusal::NotLent`];
-//! bytes behind the last whole cell are ignored. Nine zero bytes are a valid cell that holds zeros.
+//! bytes after the last whole cell are ignored. Nine zero bytes are a valid cell that holds zeros.
 //!
 //! A read or a write is of 1 to 8 bytes. One that runs into the next doubleword is a split, and its answer has two
 //! parts. [`Record::burst_read`] and [`Record::burst_write`] are of a cache line, and their answers have four parts.

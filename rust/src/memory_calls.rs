@@ -31,7 +31,7 @@ impl Record {
     /// assert!(answer.kinds().eq([Kind::Clean, Kind::Corrected(5)]));
     /// assert_eq!(buffer, [1, 2, 3, 4]);
     ///
-    /// let answer = memory.read(0x1f_fffd, &mut buffer)?; // the last byte is behind the bank
+    /// let answer = memory.read(0x1f_fffd, &mut buffer)?; // the last byte is past the end of the bank
     /// assert!(answer.kinds().eq([Kind::Clean, Kind::NoBank]));
     /// assert_eq!(buffer, [0, 0, 0, 0xff]);
     /// # Ok::<(), mpc106::Refusal>(())

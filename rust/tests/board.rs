@@ -6,7 +6,7 @@ const HELD: [u8; 16] = [
     0x11, 0x22, 0x33, 0x44, 0x55, 0x66, 0x77, 0x88, 0x99, 0xaa, 0xbb, 0xcc, 0xdd, 0xee, 0xf0, 0x0f,
 ];
 
-/// Bank 0 is megabyte 1 alone, so that it has no bank before and behind it; addresses without one are reported.
+/// Bank 0 is megabyte 1 alone, so that it has no bank before or after it; addresses without one are reported.
 fn record_on() -> Record {
     let mut record = Record::fresh();
     for (offset, value) in [

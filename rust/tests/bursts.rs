@@ -108,7 +108,7 @@ fn a_line_without_a_bank_needs_no_cells() {
     assert_eq!(error_address(&record), [0x10, 0, 0x20, 0]);
 }
 
-/// Each with all causes that come behind it, and 9 for each starting doubleword.
+/// Each with all causes that come after it, and 9 for each starting doubleword.
 const REFUSED: [(bool, u32, usize, Refusal); 7] = [
     (false, 0x1c, 31, Refusal::NotReady),
     (true, 0x1c, 31, Refusal::Misaligned),

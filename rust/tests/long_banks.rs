@@ -64,7 +64,7 @@ const CORNERS: [u32; 6] = [
     0x181f_fff8,
 ];
 
-/// Megabytes 1 to 256 (EX-12), and 129 more behind them.
+/// Megabytes 1 to 256 (EX-12), and 129 more after them.
 fn two_long_banks() -> Record {
     on(&[(1, 256), (257, 385)])
 }

@@ -187,7 +187,7 @@ fn one_part_has_no_bank() {
     }
 }
 
-/// Behind megabyte 1: neither part has a bank, and the first report keeps its address.
+/// Past megabyte 1: neither part has a bank, and the first report keeps its address.
 #[test]
 fn no_part_has_a_bank() {
     let mut memory = one_bank();

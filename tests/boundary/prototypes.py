@@ -1,7 +1,7 @@
 """The prototypes of the exported functions, read from the text of Rattle, C and Rust sources into one form.
 
 A prototype is a list of (name, type) for the parameters, then the type returned. Types are Rust's for numbers, `*const T` and `*mut T` for
-pointers, and `*const [T; N]` and `*mut [T; N]` for pointers to arrays. A lent slice is a pointer and, behind it, its length.
+pointers, and `*const [T; N]` and `*mut [T; N]` for pointers to arrays. A lent slice is a pointer and, after it, its length.
 
 A name is the one in the archive. C writes MPC106_RAW(read) for it, and Rust `pub fn read` among the functions `of_the_archive!`; both put a prefix with
 the major version before it, which is passed to the reader here.

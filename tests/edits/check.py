@@ -36,7 +36,7 @@ def name(edit):
 
 
 def values(edit, key):
-    """What stands behind `key:` in the lines of an edit that begin so."""
+    """What stands after `key:` in the lines of an edit that begin so."""
     return [line[len(key) + 1 :].strip() for line in text(edit).splitlines() if line.startswith(f"{key}:")]
 
 

@@ -137,7 +137,7 @@ static void check_refused(uint32_t refusal, size_t lent, uint32_t address, size_
     SAME(mpc106_burst_write(&memory, address, bytes, count, &a.answer), refusal);
 }
 
-/* Each refusal with every cause that comes behind it. One byte is missing of the last cell of the line at 20, whichever beat that is. */
+/* Each refusal with every cause that comes after it. One byte is missing of the last cell of the line at 20, whichever beat that is. */
 static void bursts_are_refused(void)
 {
     const size_t lent = 9 * 8 - 1;

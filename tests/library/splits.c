@@ -162,7 +162,7 @@ static void check_refused(uint32_t refusal, size_t lent, uint32_t address, size_
     SAME(mpc106_write(&less, address, bytes, count, &a.answer), refusal);
 }
 
-/* Each refusal with every cause that comes behind it; 7 wherever a byte would be behind FFFFFFFF. */
+/* Each refusal with every cause that comes after it; 7 wherever a byte would be past FFFFFFFF. */
 static void splits_are_refused(void)
 {
     both_start(0);

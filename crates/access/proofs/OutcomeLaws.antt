@@ -1,6 +1,6 @@
 -- What is found, what it comes to as a number, and what that number says: the tests of the code on outcomes are tests on kinds.
 use Prim.Native.Nat.{ℕ, _%_, _≤_, _<_}
-use mathlib.Core.Path.{_≡_, refl, sym, ap, _∙_}
+use mathlib.Core.Path.{_≡_, refl, ap, _∙_}
 use mathlib.Core.Logic.{_≢_}
 use mathlib.Core.Bool.{true, false}
 use mathlib.Core.List.{List}
@@ -10,6 +10,7 @@ use lib.Dec.{ltb, eqb}
 use lib.ListN.{length}
 use lib.Seq.{set-out}
 use Rattle.basics.proofs.RangeLaws.{byCases}
+use Rattle.registers.specs.declared.Registers.{Registers}
 use Rattle.ecc.specs.declared.Reading.{Reading}
 use Rattle.ecc.specs.declared.Reading.the-variants as reading
 use Rattle.ecc.specs.Columns.{columns}
@@ -20,6 +21,15 @@ use Rattle.syndrome_table.specs.CodeTable.{entryOf}
 use Rattle.calls.specs.CodeOutcomes.{kindBy}
 use Rattle.machine.specs.Cells.{answerOf}
 use Rattle.access.specs.CodeAccess.{foundAt, outcomeBy, isRight, isCorrected}
+
+-- ---- what settling an access gives and leaves
+
+module _ {o : ℕ} {left : Registers} {both : ℕ × Registers} (e : _≡_ {A = ℕ × Registers} (o, left) both) where
+  pub settled-outcome : o ≡ both .0
+  settled-outcome = ap (λ (p : ℕ × Registers). p .0) e
+
+  pub settled-record : left ≡ both .1
+  settled-record = ap (λ (p : ℕ × Registers). p .1) e
 
 -- ---- what is found
 

@@ -7,17 +7,13 @@ use native.Mathlib.Omega.{arith}
 use lib.ListN.{take, drop, replicate}
 use Rattle.registers.specs.declared.Registers.{Registers}
 use Rattle.ecc.specs.Columns.{columns}
-use Rattle.ecc.specs.Cell.{loadOf}
-use Rattle.ecc.specs.Lending.{cellAt}
-use Rattle.error_registers.specs.Errors.{reported}
 use Rattle.calls.specs.declared.Kind.{Kind}
-use Rattle.calls.specs.declared.Kind.the-variants.{NoBank}
 use Rattle.calls.specs.Calls.{readIn, AccessAnswer, got}
 use Rattle.calls.specs.Spans.{missed}
 use Rattle.calls.specs.State.{State, state}
-use Rattle.machine.specs.Cells.{answerOf, readCell, onCell}
+use Rattle.machine.specs.Cells.{readCell, onCell}
 use Rattle.machine.specs.Calls.{onTarget, accessAt}
-use Rattle.access.specs.CodeAccess.{fetchAt}
+use Rattle.access.proofs.FetchLaws.{GivenBy, by-none, by-cell}
 
 drop-same : (o m v : ℕ) → drop o (replicate m v) ≡ replicate (m - o) v
 drop-same zero m v = let all : m - 0 ≡ m = omega arith in rw all
@@ -34,17 +30,12 @@ same-taken : (o n v : ℕ) → o + n ≤ 8 → take n (drop o (replicate 8 v)) �
 same-taken o n v h = ap (take n) (drop-same o 8 v) ∙ take-same n (8 - o) v (omega arith)
 
 module _ (st : State) (a n : ℕ) (kind : Kind) (d : List ℕ) (r : Registers) (fits : a % 8 + n ≤ 8) where
-  pub fetched-read : (o : Option ℕ) → _≡_ {A = AccessAnswer × State} (got kind d, state r (st .cells)) (fetchAt o st a)
+  pub fetched-read : (o : Option ℕ) → GivenBy st a kind d r o
       → _≡_ {A = AccessAnswer × State} (got kind (take n (drop (a % 8) d)), state r (st .cells)) (accessAt columns o st (readIn a n))
-  unfolding accessAt onTarget missed onCell readCell fetchAt
+  unfolding accessAt onTarget missed onCell readCell
   fetched-read none e =
-      let kind-is : kind ≡ NoBank = ap (λ (x : AccessAnswer × State). x .0 .kind) e in
-      let bytes-are : d ≡ replicate 8 0xFF = ap (λ (x : AccessAnswer × State). x .0 .bytes) e in
-      let reports : r ≡ reported NoBank a (st .registers) = ap (λ (x : AccessAnswer × State). x .1 .registers) e in
-      rw (kind-is, bytes-are, reports, same-taken (a % 8) n 0xFF fits)
+      let is = by-none st a kind d r e in
+      rw (is .0, is .1, is .2, same-taken (a % 8) n 0xFF fits)
   fetched-read (some k) e =
-      let l = loadOf columns (cellAt (st .cells) k) in
-      let kind-is : kind ≡ answerOf (l .reading) = ap (λ (x : AccessAnswer × State). x .0 .kind) e in
-      let bytes-are : d ≡ l .bytes = ap (λ (x : AccessAnswer × State). x .0 .bytes) e in
-      let reports : r ≡ reported (answerOf (l .reading)) a (st .registers) = ap (λ (x : AccessAnswer × State). x .1 .registers) e in
-      rw (kind-is, bytes-are, reports)
+      let is = by-cell st a kind d r k e in
+      rw (is .0, is .1, is .2)

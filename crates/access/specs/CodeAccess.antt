@@ -1,15 +1,16 @@
 -- What the code of one access finds, gives and leaves. Only contracts of code use it.
 use Prim.Native.Nat.{ℕ, _%_}
-use mathlib.Core.Bool.{Bool, true, false, cond}
+use mathlib.Core.Bool.{Bool, true, false, cond, _||_}
 use mathlib.Core.List.{List}
 use mathlib.Core.Option.{Option, none, some}
 use lib.Dec.{eqb}
 use lib.ListN.{replicate, take}
+use Rattle.registers.specs.declared.Registers.{Registers}
 use Rattle.ecc.specs.Columns.{columns}
 use Rattle.ecc.specs.CheckCode.{syndromeOf, readingOf}
 use Rattle.ecc.specs.Cell.{loadOf}
 use Rattle.ecc.specs.Doubleword.{bytesOfNumber}
-use Rattle.ecc.specs.Lending.{cellAt, isLent}
+use Rattle.ecc.specs.Lending.{cellAt, isWithin, isLent}
 use Rattle.syndrome_table.specs.CodeTable.{entryOf}
 use Rattle.error_registers.specs.Errors.{reported}
 use Rattle.calls.specs.declared.Kind.{Kind}
@@ -18,11 +19,16 @@ use Rattle.calls.specs.Calls.{room, AccessAnswer, got}
 use Rattle.calls.specs.CodeOutcomes.{kindBy}
 use Rattle.calls.specs.State.{State, state}
 use Rattle.machine.specs.Cells.{answerOf}
+use Rattle.address_map.specs.CodeRoute.{noCell}
 use Rattle.access.specs.declared.perform.Fetched.{Fetched}
 
 -- MEM-11: the cell with this number, if all of it is lent
 unfoldable pub lentCell : List ℕ → ℕ → Option ℕ
 lentCell cells k = cond (isLent cells k) (some k) none
+
+-- REF-9: cell k, or the number that stands for none, may be accessed if so many bytes are lent
+abbrev pub isAllowed : ℕ → ℕ → Bool
+isAllowed bytes k = eqb k noCell || isWithin bytes k
 
 -- what an access finds: the syndrome of its cell, or 256 where no such cell is lent
 unfoldable pub foundAt : List ℕ → ℕ → ℕ
@@ -31,6 +37,10 @@ foundAt cells k = cond (isLent cells k) (syndromeOf columns (cellAt cells k)) 25
 -- what that comes to
 unfoldable pub outcomeBy : ℕ → ℕ
 outcomeBy found = cond (eqb found 256) 74 (entryOf (readingOf columns (found % 256)))
+
+-- that, and the record once it is reported at the address a
+abbrev pub settledBy : ℕ → ℕ → Registers → ℕ × Registers
+settledBy found a r = (outcomeBy found, reported (kindBy (outcomeBy found)) a r)
 
 -- MEM-3, MEM-9, MEM-10: what reading all eight bytes of a cell gives, or without a cell, at the address a; the answer is reported
 unfoldable pub fetchAt : Option ℕ → State → ℕ → AccessAnswer × State

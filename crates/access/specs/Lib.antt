@@ -1,2 +1,1 @@
 pub mod CodeAccess
-pub mod CodeTargets

@@ -256,6 +256,9 @@ module _ {f : List ℕ} {mb rest b k z base end ascent : ℕ} (g : Going f mb re
     pub below-eight : m < 8
     below-eight = next-below (getD f 16 0) rest (g .n) (g .left) some
 
+    pub same-here : m % 8 ≡ m
+    same-here = omega (arith, below-eight)
+
     passed-here : Passed (setupBy f) mb m b k z base end ascent
     passed-here =
         passed-skip (setupBy f) mb (g .n) b k z base end ascent (g .passed) m (next-from (getD f 16 0) rest (g .n) (g .left) some) (omega (arith, below-eight))
@@ -280,7 +283,7 @@ module _ {f : List ℕ} {mb rest b k z base end ascent : ℕ} (g : Going f mb re
 
     module _ {bits : ℕ} (sized : bits ≡ bitsUnlessFaulty (enabledBy f (m % 8))) where
       e : bits ≡ bitsUnlessFaulty (enabledBy f m)
-      e = let same : m % 8 ≡ m = omega (arith, below-eight) in rw same at sized
+      e = rw same-here at sized
 
       -- 32 bits stand for a faulty bank
       pub faulty-here : bits ≡ 32 → lowest faulty (setupBy f) < 8

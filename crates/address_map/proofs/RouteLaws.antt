@@ -4,7 +4,7 @@ use mathlib.Core.Path.{_≡_, sym, ap, _∙_}
 use mathlib.Core.Bool.{true, false}
 use mathlib.Core.Option.{Option, none, some}
 use mathlib.Core.List.{List, [], _∷_}
-use Prim.Native.Nat.{ℕ, zero, suc, _+_, _-_, _*_, _/_, _%_, _^_, _≤_, _<_}
+use Prim.Native.Nat.{ℕ, zero, suc, _+_, _*_, _/_, _%_, _^_, _≤_, _<_}
 use native.Mathlib.Omega.{arith}
 use lib.Dec.{ltb}
 use borrow.Author.Tests.{ltb-true, ltb-false, lt-ltb, le-ltb, lt-leb, ne-eqb}
@@ -17,7 +17,7 @@ use Rattle.banks.specs.declared.Bank.{Bank}
 use Rattle.banks.specs.Setup.{fewestRowBits, Setup, setupOf, bank}
 use Rattle.address_map.specs.CodeFields.{codeBy, enabledBy, bankBy, setupBy}
 use Rattle.banks.specs.Judge.{notReady}
-use Rattle.banks.specs.Map.{mostCells, bankAt, selected, cells, cellInBank, share, cellsBelow, cellCount, inSpan, located, placeOf, cellOf}
+use Rattle.banks.specs.Map.{mostCells, bankAt, selected, cellInBank, share, cellsBelow, cellCount, inSpan, located, placeOf, cellOf}
 use Rattle.address_map.specs.CodeSelection.{megabyteBits, selection, InBank}
 use Rattle.address_map.specs.CodeRoute.{bankIn, firstIn, bitsIn, paperRoute, noCell, cellBy, targetOf, Leads}
 use Rattle.address_map.specs.declared.routes.Route.{Route}

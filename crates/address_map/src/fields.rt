@@ -103,25 +103,24 @@ fn wide(x: u16) -> u32
     x as u32
 }
 
-// REG-4: the start of bank n, as it is when enabled.
+// REG-4: the start of bank n, as it is when enabled. Here and below three bits of the bank's number count: a caller's number is then below 8 without
+// a proof, and the compiler takes the three bits once for all of these.
 pub(crate) fn start_of(fields: &[u16; FIELDS], n: u32) -> u32
-    requires { ⌜ n < 8 ⌝ }
-    ensures { λ k. ⌜ k ≡ getD (now (fields .entry)) n 0 ⌝ }
+    ensures { λ k. ⌜ k ≡ getD (now (fields .entry)) (n % 8) 0 ⌝ }
     ensures bound { λ k. ⌜ k < 2 ^ 16 ⌝ }
 {
-    wide(fields[n as usize])
+    wide(fields[(n % 8) as usize])
 }
 
 // REG-5: its last megabyte.
 pub(crate) fn last_of(fields: &[u16; FIELDS], n: u32) -> u32
-    requires { ⌜ n < 8 ⌝ }
-    ensures { λ k. ⌜ k ≡ getD (now (fields .entry)) (8 + n) 0 ⌝ }
+    ensures { λ k. ⌜ k ≡ getD (now (fields .entry)) (8 + n % 8) 0 ⌝ }
     ensures bound { λ k. ⌜ k < 2 ^ 16 ⌝ }
 {
-    wide(fields[(8 + n) as usize])
+    wide(fields[(8 + n % 8) as usize])
 }
 
-// REG-12, FORM-3: the row code of a bank, by a shift and a mask. Of the bank's number three bits count.
+// REG-12, FORM-3: its row code, by a shift and a mask.
 pub fn row_code(fields: &[u16; FIELDS], n: u32) -> u32
     ensures { λ k. ⌜ k ≡ codeBy (now (fields .entry)) (n % 8) ⌝ }
     ensures bound { λ k. ⌜ k < 4 ⌝ }

@@ -37,7 +37,7 @@ fn is_clear(fields: &[u16; FIELDS], n: u32) -> bool
 pub fn meets_lower(fields: &[u16; FIELDS], n: u32) -> bool
     ensures { λ t. ⌜ t ≡ meetsLower (setupBy (now (fields .entry))) n ⌝ }
 {
-    if n < 8 {
+    if is_enabled(fields, n) {
         return !is_clear(fields, n);
     }
     false

@@ -58,13 +58,13 @@ fn size_bits(span: u32, code: u32) -> u32
     choose(k < code, code, k)
 }
 
-// How many bits number the megabytes of a bank's cells, as it is when enabled; FAULTY if 12 or 13 applies to it then. Of the bank's number three
-// bits count. If its start is above its end, the difference wraps to a number too long for any bank.
+// How many bits number the megabytes of a bank's cells, as it is when enabled; FAULTY if 12 or 13 applies to it then. If its start
+// is above its end, the difference wraps to a number too long for any bank.
 pub fn bits_unless_faulty(fields: &[u16; FIELDS], n: u32) -> u32
     ensures { λ k. ⌜ k ≡ bitsUnlessFaulty (enabledBy (now (fields .entry)) (n % 8)) ⌝ }
 {
     let code = row_code(fields, n);
-    let span = wrapping_sub_u32(last_of(fields, n % 8), start_of(fields, n % 8));
+    let span = wrapping_sub_u32(last_of(fields, n), start_of(fields, n));
     let bits = size_bits(span, code);
     choose(span < longest(code), bits, FAULTY)
 }

@@ -10,6 +10,9 @@ pub const FEWEST_COLUMN_BITS: u32 = 8;
 // How many bits number the doublewords of a megabyte.
 pub const MEGABYTE_BITS: u32 = 17;
 
+// How many doublewords a megabyte has.
+pub const MEGABYTE_DOUBLEWORDS: u32 = 131072;
+
 pub struct Row(pub u32);
 
 pub struct Column(pub u32);

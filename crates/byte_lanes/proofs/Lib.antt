@@ -1,3 +1,1 @@
-pub mod LaneLaws
-pub mod GatherLaws
 pub mod StoreLaws

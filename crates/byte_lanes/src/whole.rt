@@ -43,13 +43,13 @@ pub fn copy_line(first: u64, second: u64, third: u64, fourth: u64, buffer: &mut 
 }
 
 // FORM-6: stores the nine bytes of a cell into the part of the lent cells that holds it.
-pub fn store_nine(part: &mut [u8], nine: [u8; 9])
-    ensures { λ _. ⌜ now (part .exit) ≡ cond (eqb (length (now (part .entry))) 9) nine (now (part .entry)) ⌝ }
+pub fn store_nine(lent: &mut [u8], nine: [u8; 9])
+    ensures { λ _. ⌜ now (lent .exit) ≡ cond (eqb (length (now (lent .entry))) 9) nine (now (lent .entry)) ⌝ }
 {
-    if part.len() != 9 {
+    if lent.len() != 9 {
         return;
     }
-    store_four(part, 0, nine[0], nine[1], nine[2], nine[3]);
-    store_four(part, 4, nine[4], nine[5], nine[6], nine[7]);
-    part[8] = nine[8];
+    store_four(lent, 0, nine[0], nine[1], nine[2], nine[3]);
+    store_four(lent, 4, nine[4], nine[5], nine[6], nine[7]);
+    lent[8] = nine[8];
 }

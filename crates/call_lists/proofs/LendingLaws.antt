@@ -1,4 +1,4 @@
--- Lent bytes behind those that a list of calls reaches change none of its answers. So a list that stays among the first few cells can be computed
+-- Lent bytes beyond those that a list of calls reaches change none of its answers. So a list that stays among the first few cells can be computed
 -- with those alone.
 use Prim.Native.Nat.{ℕ, _+_, _-_, _≤_}
 use mathlib.Core.Path.{_≡_, refl, sym, ap, _∙_}

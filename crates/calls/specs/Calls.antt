@@ -51,7 +51,7 @@ crosses a n = ltb 8 (a % 8 + n)
 unfoldable pub room : ℕ → ℕ
 room a = 8 - a % 8
 
--- MEM-17: the address of the doubleword behind that of the address a
+-- MEM-17: the address of the doubleword after the one that holds the address a
 unfoldable pub nextDoubleword : ℕ → ℕ
 nextDoubleword a = a + room a
 

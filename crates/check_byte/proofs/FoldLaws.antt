@@ -20,7 +20,7 @@ use Rattle.ecc.specs.CheckCode.{bitAt, dataBit, taken, xorOf, checkOf}
 use Rattle.ecc.specs.Doubleword.{bytesOfNumber}
 use Rattle.check_byte.specs.CodeFold.{rotated, masked, folded, overShifted, foldedMasks, laidOver, foldedCheck}
 use Rattle.ecc.proofs.BitLaws.{bit-xor, taken-xor}
-use Rattle.ecc.proofs.DoublewordLaws.{number-at, placeOf, check-one}
+use Rattle.ecc.proofs.DoublewordLaws.{number-at, bitInNumber, check-one}
 use Rattle.ecc.proofs.FlipLaws.{data-lt}
 
 -- ---- the check byte under any columns
@@ -108,19 +108,19 @@ fold-linear =
 
 -- FORM-5: the masks are those of the table of columns (`ecc::columns::COLUMNS`, which is proved to be this list): of a doubleword in which just data
 -- bit i is set the folds leave entry i of the table, for each of its 64 entries
-masks-are-columns : every (λ i. eqb (foldedCheck (2 ^ placeOf i)) (getD columns i 0)) 64 ≡ true
+masks-are-columns : every (λ i. eqb (foldedCheck (2 ^ bitInNumber i)) (getD columns i 0)) 64 ≡ true
 unfolding every foldedCheck laidOver foldedMasks folded overShifted masked rotated
 masks-are-columns = refl
 
 -- every bit of a number is some data bit
 one-bit : (k : ℕ) → k < 64 → foldedCheck (2 ^ k) ≡ checkOf columns (bytesOfNumber (2 ^ k))
 one-bit k h =
-    let i : ℕ = placeOf k in
+    let i : ℕ = bitInNumber k in
     let within : i < 64 = omega arith in
-    let back : placeOf i ≡ k = omega arith in
+    let back : bitInNumber i ≡ k = omega arith in
     rw (← back)
-    (eqb-true (foldedCheck (2 ^ placeOf i)) (getD columns i 0)
-    (every-at (λ j. eqb (foldedCheck (2 ^ placeOf j)) (getD columns j 0)) 64 masks-are-columns i within)
+    (eqb-true (foldedCheck (2 ^ bitInNumber i)) (getD columns i 0)
+    (every-at (λ j. eqb (foldedCheck (2 ^ bitInNumber j)) (getD columns j 0)) 64 masks-are-columns i within)
     ∙ sym (check-one columns i within))
 
 pub fold-is-check : (x : ℕ) → x < 2 ^ 64 → foldedCheck x ≡ checkOf columns (bytesOfNumber x)

@@ -31,7 +31,7 @@ unfoldable renewedFirst : ℕ → List Access → Bool
 renewedFirst q [] = true
 renewedFirst q (x ∷ xs) = renews q x || not (flips q x) && renewedFirst q xs
 
--- the same, behind each flip
+-- the same, after each flip
 abbrev Apart : List Access → Type 0
 Apart [] = Unit {0}
 Apart (x ∷ xs) = ((q : ℕ) → flips q x ≡ true → renewedFirst q xs ≡ true) × Apart xs
@@ -94,7 +94,7 @@ module _ (spans : Spans) where
       (byCases (anyOf (flips q) (acceptedOf spans c)) (λ t. absurd (not-suc-le-zero (w 0 t .1))) (λ t. t))
       (λ n. waiting q cs (waiting-tail q c cs n w))
 
-  -- a place behind the first
+  -- a place after the first
   behind : (q : ℕ) (c : Call) (cs : List Call) (i j : ℕ) → (k : ℕ) × (i < k) × (k < suc j) × (renewedAt spans (c ∷ cs) q k ≡ true)
       → (k : ℕ) × (i ≤ k) × (k < j) × (renewedAt spans cs q k ≡ true)
   behind q c cs i j (zero, l, u, t) = absurd (not-suc-le-zero l)

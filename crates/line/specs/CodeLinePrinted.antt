@@ -4,8 +4,7 @@ use mathlib.Core.Bool.{cond}
 use mathlib.Core.List.{List}
 use lib.Dec.{leb}
 use lib.ListN.{length}
-use Rattle.registers.specs.Record.{recordOf}
-use Rattle.calls.specs.State.{State, state}
+use Rattle.calls.specs.State.{State, lentState}
 use Rattle.print.specs.CodePrinted.{longestOutputLine, atStart}
 use Rattle.line.specs.Line.{Printed, lineOf}
 
@@ -15,9 +14,9 @@ LineEffect = ℕ × List ℕ × State
 
 -- by the number of bytes that the code returned, and the record, the cells and the output that it was lent
 abbrev pub executedInPlace : ℕ → List ℕ → List ℕ → List ℕ → LineEffect
-executedInPlace n registers cells out = (n, out, state (recordOf registers) cells)
+executedInPlace n registers cells out = (n, out, lentState registers cells)
 
--- what is printed stands at the start of the output, and the bytes behind it stay as they were
+-- what is printed stands at the start of the output, and the bytes after it stay as they were
 abbrev pub printedInto : List ℕ → Printed → LineEffect
 printedInto out p = let t = atStart (p .0) out in (t .0, t .1, p .1)
 

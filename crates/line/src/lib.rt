@@ -7,8 +7,7 @@ ghost use lib.Dec.{ltb};
 ghost use lib.ListN.{length};
 ghost use Rattle.ecc.specs.Columns.{columns};
 ghost use Rattle.calls.specs.Calls.{read, write, flip, scrub, memory, readRegister, writeRegister};
-ghost use Rattle.registers.specs.Record.{recordOf};
-ghost use Rattle.calls.specs.State.{state};
+ghost use Rattle.calls.specs.State.{lentState};
 ghost use Rattle.parser.specs.CodeParsed.{asked};
 ghost use Rattle.print.specs.Output.{malformedText};
 ghost use Rattle.print.specs.CodePrinted.{longestOutputLine, atStart};
@@ -23,7 +22,7 @@ use registers::Registers;
 // `c`
 fn register_write_line(registers: &mut [u8; 256], offset: u8, value: u8, out: &mut [u8]) -> usize
     requires { ⌜ longestOutputLine ≤ length (now out) ⌝ }
-    ensures { λ n. ⌜ ((cells : List ℕ) → executedInPlace n (now (registers .exit)) cells (now (out .exit)) ≡ printedInto (now (out .entry)) (callOf columns (state (recordOf (now (registers .entry))) cells) (writeRegister offset value))) ⌝ }
+    ensures { λ n. ⌜ ((cells : List ℕ) → executedInPlace n (now (registers .exit)) cells (now (out .exit)) ≡ printedInto (now (out .entry)) (callOf columns (lentState (now (registers .entry)) cells) (writeRegister offset value))) ⌝ }
 {
     let written = register_calls::write(Registers { bytes: *registers }, offset as u32, value);
     let verdict = written.verdict;
@@ -36,7 +35,7 @@ fn register_write_line(registers: &mut [u8; 256], offset: u8, value: u8, out: &m
 // `g`
 fn register_read_line(registers: &[u8; 256], offset: u8, out: &mut [u8]) -> usize
     requires { ⌜ longestOutputLine ≤ length (now out) ⌝ }
-    ensures { λ n. ⌜ ((cells : List ℕ) → executedInPlace n (now (registers .entry)) cells (now (out .exit)) ≡ printedInto (now (out .entry)) (callOf columns (state (recordOf (now (registers .entry))) cells) (readRegister offset))) ⌝ }
+    ensures { λ n. ⌜ ((cells : List ℕ) → executedInPlace n (now (registers .entry)) cells (now (out .exit)) ≡ printedInto (now (out .entry)) (callOf columns (lentState (now (registers .entry)) cells) (readRegister offset))) ⌝ }
 {
     print::register_read(
         register_calls::read(Registers { bytes: *registers }, offset as u32),
@@ -53,7 +52,7 @@ fn write_line(
     out: &mut [u8],
 ) -> usize
     requires { ⌜ longestOutputLine ≤ length (now out) ⌝ }
-    ensures { λ n. ⌜ executedInPlace n (now (registers .exit)) (now (cells .exit)) (now (out .exit)) ≡ printedInto (now (out .entry)) (callOf columns (state (recordOf (now (registers .entry))) (now (cells .entry))) (memory (write address (now (bytes .entry))))) ⌝ }
+    ensures { λ n. ⌜ executedInPlace n (now (registers .exit)) (now (cells .exit)) (now (out .exit)) ≡ printedInto (now (out .entry)) (callOf columns (lentState (now (registers .entry)) (now (cells .entry))) (memory (write address (now (bytes .entry))))) ⌝ }
 {
     let called = memory_calls::write(Registers { bytes: *registers }, cells, address, bytes);
     let answer = called.answer;
@@ -72,7 +71,7 @@ fn flip_line(
     out: &mut [u8],
 ) -> usize
     requires { ⌜ longestOutputLine ≤ length (now out) ⌝ }
-    ensures { λ n. ⌜ executedInPlace n (now (registers .entry)) (now (cells .exit)) (now (out .exit)) ≡ printedInto (now (out .entry)) (callOf columns (state (recordOf (now (registers .entry))) (now (cells .entry))) (memory (flip address bit))) ⌝ }
+    ensures { λ n. ⌜ executedInPlace n (now (registers .entry)) (now (cells .exit)) (now (out .exit)) ≡ printedInto (now (out .entry)) (callOf columns (lentState (now (registers .entry)) (now (cells .entry))) (memory (flip address bit))) ⌝ }
 {
     let called = memory_calls::flip(Registers { bytes: *registers }, cells, address, bit as u32);
     let answer = called.answer;
@@ -83,7 +82,7 @@ fn flip_line(
 // `s`
 fn scrub_line(registers: &mut [u8; 256], cells: &mut [u8], address: u32, out: &mut [u8]) -> usize
     requires { ⌜ longestOutputLine ≤ length (now out) ⌝ }
-    ensures { λ n. ⌜ executedInPlace n (now (registers .exit)) (now (cells .exit)) (now (out .exit)) ≡ printedInto (now (out .entry)) (callOf columns (state (recordOf (now (registers .entry))) (now (cells .entry))) (memory (scrub address))) ⌝ }
+    ensures { λ n. ⌜ executedInPlace n (now (registers .exit)) (now (cells .exit)) (now (out .exit)) ≡ printedInto (now (out .entry)) (callOf columns (lentState (now (registers .entry)) (now (cells .entry))) (memory (scrub address))) ⌝ }
 {
     let called = memory_calls::scrub(Registers { bytes: *registers }, cells, address);
     let answer = called.answer;
@@ -109,7 +108,7 @@ fn read_line(
     out: &mut [u8],
 ) -> usize
     requires { ⌜ longestOutputLine ≤ length (now out) ⌝ }
-    ensures { λ n. ⌜ executedInPlace n (now (registers .exit)) (now (cells .entry)) (now (out .exit)) ≡ printedInto (now (out .entry)) (callOf columns (state (recordOf (now (registers .entry))) (now (cells .entry))) (memory (read address count))) ⌝ }
+    ensures { λ n. ⌜ executedInPlace n (now (registers .exit)) (now (cells .entry)) (now (out .exit)) ≡ printedInto (now (out .entry)) (callOf columns (lentState (now (registers .entry)) (now (cells .entry))) (memory (read address count))) ⌝ }
 {
     let mut buffer = [0u8; 9];
     let n = buffer_length(count);
@@ -143,7 +142,7 @@ fn request_line(
     out: &mut [u8],
 ) -> usize
     requires { ⌜ longestOutputLine ≤ length (now out) ⌝ }
-    ensures { λ n. ⌜ executedInPlace n (now (registers .exit)) (now (cells .exit)) (now (out .exit)) ≡ printedInto (now (out .entry)) (orMalformed columns (state (recordOf (now (registers .entry))) (now (cells .entry))) (asked request (now (bytes .entry)))) ⌝ }
+    ensures { λ n. ⌜ executedInPlace n (now (registers .exit)) (now (cells .exit)) (now (out .exit)) ≡ printedInto (now (out .entry)) (orMalformed columns (lentState (now (registers .entry)) (now (cells .entry))) (asked request (now (bytes .entry)))) ⌝ }
 {
     match request {
         Request::Malformed => malformed_line(out),
@@ -164,7 +163,7 @@ pub fn execute_in_place(
     line: &[u8],
     out: &mut [u8],
 ) -> usize
-    ensures { λ n. ⌜ executedInPlace n (now (registers .exit)) (now (cells .exit)) (now (out .exit)) ≡ lineInto columns (state (recordOf (now (registers .entry))) (now (cells .entry))) (now (line .entry)) (now (out .entry)) ⌝ }
+    ensures { λ n. ⌜ executedInPlace n (now (registers .exit)) (now (cells .exit)) (now (out .exit)) ≡ lineInto columns (lentState (now (registers .entry)) (now (cells .entry))) (now (line .entry)) (now (out .entry)) ⌝ }
 {
     if out.len() < LONGEST_OUTPUT_LINE {
         return 0;

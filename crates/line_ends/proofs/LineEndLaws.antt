@@ -108,7 +108,7 @@ length-append (b ∷ xs) ys =
     go true = refl
     go false = sym (suc-add (length xs) (lineLength ys))
 
--- eight bytes from a place on: LF is among them, or behind them
+-- eight bytes from a place on: LF is among them, or after them
 module _ (l : List ℕ) (i n : ℕ) (room : i + 8 ≤ length l) (e : n ≡ lineLength (take 8 (drop i l))) where
   size : length (take 8 (drop i l)) ≡ 8
   size = length-take-le 8 (drop i l) (omega (arith, length-drop i l))

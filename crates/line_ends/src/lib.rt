@@ -31,7 +31,7 @@ fn rest_end(chunk: &[u8], from: usize) -> usize
     i
 }
 
-// LINE-1: the index of the first LF from `from` on, or the length if there is none; eight bytes at a time. From behind the end on, `from` itself.
+// LINE-1: the index of the first LF from `from` on, or the length if there is none; eight bytes at a time. If `from` is past the end, `from` itself.
 pub fn line_end(chunk: &[u8], from: usize) -> usize
     ensures { λ r. ⌜ r ≡ from + lineLength (drop from (now (chunk .entry))) ⌝ }
 {

@@ -54,7 +54,7 @@ kept-is start part len n more h e f =
     ∙ ap (λ (m : ℕ). take m (take n start ++ part)) (sym w)
     ∙ ap (λ (l : List ℕ). take mostCarried (l ++ part)) (take-least len n start s)
 
--- bytes with zeros behind the first k, as they are carried
+-- bytes with zeros after the first k, as they are carried
 carry-is : (k : ℕ) (bytes : List ℕ) → k ≤ length bytes → drop k bytes ≡ zeros (mostCarried - k) → _≡_ {A = Carry} (record { bytes = bytes; len = k }) (carryOf (take k bytes))
 unfolding carryOf
 carry-is k bytes h e =
@@ -62,7 +62,7 @@ carry-is k bytes h e =
     let few : k ≡ length (take k bytes) = sym (length-take-le k bytes h) in
     λ i. record { bytes = all i; len = few i }
 
--- both copied over zeros, one behind the other
+-- both copied over zeros, one after the other
 pub joined-is : (start part : List ℕ) (len n more : ℕ) → length start ≡ mostCarried → n ≡ cond (ltb len mostCarried) len mostCarried
     → more ≡ cond (ltb (mostCarried - n) (length part)) (mostCarried - n) (length part)
     → _≡_ {A = Carry} (record { bytes = paste (paste (zeros mostCarried) 0 start n) n part more; len = n + more }) (carryOf (kept start len part))

@@ -23,7 +23,7 @@ carriedOf c = take (c .len) (c .bytes)
 abbrev pub keptOf : Kept → List ℕ → Fed
 keptOf k cells = carrying (state (k .registers) cells) (carriedOf (k .carry))
 
--- these bytes as the code carries them, with zeros behind them
+-- these bytes as the code carries them, with zeros after them
 unfoldable pub carryOf : List ℕ → Carry
 carryOf c = record { bytes = padded mostCarried c; len = length c }
 
@@ -31,7 +31,7 @@ carryOf c = record { bytes = padded mostCarried c; len = length c }
 abbrev pub keptAs : Fed → Kept × List ℕ
 keptAs f = (record { registers = f .state .registers; carry = carryOf (f .carried) }, f .state .cells)
 
--- a text was added to the output at a place: what stands before it and what stands behind it stay as they were
+-- a text was added to the output at a place: what stands before it and what stands after it stay as they were
 pub record Appended (out : List ℕ) (at : ℕ) (text out′ : List ℕ) (at′ : ℕ) : Type 0 where
   pub place : at′ ≡ at + length text
   pub front : take at′ out′ ≡ take at out ++ text

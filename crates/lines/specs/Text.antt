@@ -32,7 +32,7 @@ pub record Fed : Type 0 where
 abbrev pub carrying : State → List ℕ → Fed
 carrying st c = record { carried = c; state = st }
 
--- what r prints, printed behind w
+-- what r prints, printed after w
 abbrev pub after : {A : Type 0} → List ℕ → List ℕ × A → List ℕ × A
 after w r = (w ++ r .0, r .1)
 

@@ -13,7 +13,7 @@ use parser::LONGEST_INPUT_LINE;
 // The most bytes of an unfinished line that are kept; one more than a line may have shows that it is too long.
 pub const MOST_CARRIED: usize = LONGEST_INPUT_LINE + 1;
 
-// The bytes since the last LF, as far as they are kept; behind the first `len` they are 0.
+// The bytes since the last LF, as far as they are kept; after the first `len` they are 0.
 pub struct Carry {
     pub bytes: [u8; MOST_CARRIED],
     pub len: usize,
@@ -38,7 +38,7 @@ fn least(a: usize, b: usize) -> usize
     if a < b { a } else { b }
 }
 
-// The first `len` of these bytes and then those of a part, as far as there is room, and zeros behind them.
+// The first `len` of these bytes and then those of a part, as far as there is room, and zeros after them.
 pub(crate) fn joined(start: [u8; MOST_CARRIED], len: usize, part: &[u8]) -> Carry
     ensures { λ r. ⌜ r ≡ carryOf (take mostCarried (take len start ++ now (part .entry))) ⌝ }
 {

@@ -6,8 +6,7 @@ ghost use mathlib.Core.List.{[]};
 ghost use lib.Dec.{eqb};
 ghost use lib.ListN.{length, take, drop};
 ghost use Rattle.ecc.specs.Columns.{columns};
-ghost use Rattle.registers.specs.Record.{recordOf};
-ghost use Rattle.calls.specs.State.{state};
+ghost use Rattle.calls.specs.State.{state, lentState};
 ghost use Rattle.print.specs.CodePrinted.{longestOutputLine};
 ghost use Rattle.line_ends.specs.LineEnd.{lineLength};
 ghost use Rattle.lines.specs.CodeStepped.{carriedOf, keptAs, LinesReached, stepOf, stepped, executed, endInto};
@@ -94,7 +93,7 @@ fn whole_lines<'a>(
     out: &mut [u8],
 ) -> Progress
     requires { ⌜ (stop ≡ 0 + lineLength (drop 0 (now chunk))) × (stop < length (now chunk)) × (longestOutputLine * length (now chunk) ≤ length (now out)) ⌝ }
-    ensures { λ r. ⌜ LinesReached columns (state (recordOf (now (registers .entry))) (now (cells .entry))) (now (first .entry)) (now (chunk .entry)) stop (now (out .entry)) (state (recordOf (now (registers .exit))) (now (cells .exit))) (r .from) (now (out .exit)) (r .at) ⌝ }
+    ensures { λ r. ⌜ LinesReached columns (lentState (now (registers .entry)) (now (cells .entry))) (now (first .entry)) (now (chunk .entry)) stop (now (out .entry)) (lentState (now (registers .exit)) (now (cells .exit))) (r .from) (now (out .exit)) (r .at) ⌝ }
     ensures { λ r. ⌜ lineLength (drop (r .from) (now (chunk .entry))) ≡ length (now (chunk .entry)) - r .from ⌝ }
 {
     let mut i: usize = 0;

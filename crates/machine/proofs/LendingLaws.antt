@@ -1,4 +1,4 @@
--- Lent bytes behind those that a call reaches change nothing in what it gives and leaves.
+-- Lent bytes beyond those that a call reaches change nothing in what it gives and leaves.
 use Prim.Native.Nat.{ℕ, _+_, _*_, _≤_}
 use mathlib.Core.Path.{_≡_, refl, ap, _∙_}
 use mathlib.Core.Bool.{Bool, true, not, _&&_}
@@ -51,11 +51,11 @@ module _ (cells more : List ℕ) (k : ℕ) (lent : isLent cells k ≡ true) wher
 
 -- ---- accesses and calls
 
--- the same record, with more lent behind the cells
+-- the same record, with more lent after the cells
 abbrev pub longer : List ℕ → State → State
 longer more st = state (st .registers) (st .cells ++ more)
 
--- what is given, and what is left with more lent behind it
+-- what is given, and what is left with more lent after it
 abbrev pub beside : {A : Type 0} → List ℕ → A × State → A × State
 beside more p = (p .0, longer more (p .1))
 
@@ -75,7 +75,7 @@ unlent-longer more st (x ∷ xs) e =
     go (some k) h = rw (lent-append (st .cells) more k (lent-of (st .cells) k h))
 
 module _ (cols : List ℕ) where
-  -- at its turn, each access and those behind it have their cells lent
+  -- at its turn, each access and those after it have their cells lent
   unfoldable pub reach : State → List Access → Bool
   reach st [] = true
   reach st (x ∷ xs) = isAccepted (unlent st (x ∷ xs)) && reach (access cols st x .1) xs

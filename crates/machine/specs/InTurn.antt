@@ -20,7 +20,7 @@ abbrev pub singles : List Access → List MemoryCall
 singles [] = []
 singles (x ∷ xs) = single x ∷ singles xs
 
--- what a call and those behind it give: all that they give, in order, or the first refusal among them
+-- what a call and those after it give: all that they give, in order, or the first refusal among them
 abbrev pub together : CallAnswer → CallAnswer → CallAnswer
 together (refused n) rest = refused n
 together (given gs) (refused n) = refused n

@@ -1,13 +1,12 @@
 -- A flip in a lent cell: one bit inverted, no register changed.
 use Prim.Native.Nat.{ℕ}
-use mathlib.Core.Path.{_≡_, refl, sym, ap, _∙_}
+use mathlib.Core.Path.{_≡_, refl, sym, _∙_}
 use mathlib.Core.Bool.{true, cond}
 use mathlib.Core.List.{List, [], _∷_}
 use borrow.Author.Tests.{not-false}
 use lib.Dec.{eqb}
-use mathlib.Core.Option.{Option, none, some, Option·some-ne-none}
+use mathlib.Core.Option.{none, some, Option·some-ne-none}
 use Rattle.basics.proofs.RangeLaws.{byCases}
-use Rattle.ecc.specs.Columns.{columns}
 use Rattle.ecc.specs.CheckCode.{flipBit}
 use Rattle.ecc.specs.Lending.{cellAt, putCell, isLent}
 use Rattle.error_registers.specs.Errors.{reported}
@@ -24,7 +23,7 @@ use Rattle.banks.specs.Map.{selected, placeOf, inSpan, located, cellOf}
 use Rattle.address_map.specs.CodeRoute.{noCell, bankIn, cellBy, targetOf, Leads}
 use Rattle.address_map.specs.declared.routes.Route.{Route}
 use Rattle.access.specs.CodeAccess.{lentCell}
-use Rattle.access.proofs.CarryLaws.{Does}
+use Rattle.targets.proofs.CarryLaws.{Does}
 
 is-lent : (cells : List ℕ) (k : ℕ) → lentCell cells k ≡ some k → isLent cells k ≡ true
 unfolding lentCell

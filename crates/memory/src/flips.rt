@@ -13,11 +13,9 @@ ghost use Rattle.calls.specs.State.{state, lentState};
 ghost use Rattle.calls.specs.Answers.{leaves, effectOf};
 ghost use Rattle.machine.specs.Calls.{flipCall};
 ghost use Rattle.address_map.specs.CodeRoute.{bankIn, targetOf};
-ghost use Rattle.access.specs.CodeTargets.{carriedOut};
+ghost use Rattle.targets.specs.CodeTargets.{carriedOut};
 use access::admit;
-use access::flip;
 use access::is_allowed;
-use access::judge_bit;
 use address_map::NO_BANK;
 use address_map::Route;
 use address_map::bank_of;
@@ -30,6 +28,17 @@ use refusals::Verdict;
 use registers::Registers;
 use results::one;
 use results::refuse;
+use stores::flip;
+
+// REF-8: the refusal, if any, of a flip bit.
+fn judge_bit(bit: u32) -> Verdict
+    ensures { λ v. ⌜ paperVerdict v ≡ byBit bit ⌝ }
+{
+    if 71 < bit {
+        return Verdict::Refused(Refusal::BitOutOfRange);
+    }
+    Verdict::Accepted
+}
 
 // REF-8, REF-10: the refusal, if any, by the bit and the bank.
 fn judge_flip(to: Route, bit: u32) -> Verdict

@@ -2,9 +2,9 @@
 mod flips;
 mod scrubs;
 
+pub use burst_reads::burst_read_in_place;
+pub use burst_writes::burst_write_in_place;
 pub use flips::flip_in_place;
-pub use reads::burst_read_in_place;
 pub use reads::read_in_place;
 pub use scrubs::scrub_in_place;
-pub use writes::burst_write_in_place;
 pub use writes::write_in_place;

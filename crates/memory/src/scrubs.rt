@@ -7,10 +7,9 @@ ghost use Rattle.calls.specs.State.{lentState};
 ghost use Rattle.calls.specs.Answers.{leaves, effectOf};
 ghost use Rattle.machine.specs.Calls.{scrubCall};
 ghost use Rattle.address_map.specs.CodeRoute.{targetOf};
-ghost use Rattle.access.specs.CodeTargets.{carriedOut};
+ghost use Rattle.targets.specs.CodeTargets.{carriedOut};
 use access::admit;
 use access::is_allowed;
-use access::scrub;
 use address_map::cell_at;
 use address_map::route;
 use calls::Answer;
@@ -20,6 +19,7 @@ use registers::Registers;
 use results::kind_of;
 use results::one;
 use results::refuse;
+use stores::scrub;
 
 // A scrub of cell k.
 fn scrub_inside(registers: &mut [u8; 256], cells: &mut [u8], k: usize, address: u32) -> Answer

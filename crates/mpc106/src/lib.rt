@@ -12,7 +12,7 @@ ghost use Rattle.way_back.specs.WayBack.{back};
 ghost use Rattle.alike.specs.Alike.{compared};
 ghost use Rattle.register_calls.specs.Calls.{readAt, writeAt};
 ghost use Rattle.ecc.specs.Columns.{columns};
-ghost use Rattle.calls.specs.State.{state};
+ghost use Rattle.calls.specs.State.{lentState};
 ghost use Rattle.machine.specs.Calls.{readCall, writeCall, flipCall, scrubCall, burstReadCall, burstWriteCall};
 ghost use Rattle.results.specs.Results.{resultOfVerdict, returned};
 ghost use Rattle.mpc106.specs.Numbers.{single, truth, placeNumbers, writeResult};
@@ -167,7 +167,7 @@ pub extern "C" fn mpc106_v4_read(
     buffer: &mut [u8],
     answer: &mut [u32; 5],
 ) -> u32
-    ensures { λ n. ⌜ memoryResult n (state (recordOf (now (registers .exit))) (now (cells .entry))) (now (buffer .exit)) (now (answer .exit)) ≡ resultOfCall (readCall columns (state (recordOf (now (registers .entry))) (now (cells .entry))) address (now (buffer .entry))) (now (answer .entry)) ⌝ }
+    ensures { λ n. ⌜ memoryResult n (lentState (now (registers .exit)) (now (cells .entry))) (now (buffer .exit)) (now (answer .exit)) ≡ resultOfCall (readCall columns (lentState (now (registers .entry)) (now (cells .entry))) address (now (buffer .entry))) (now (answer .entry)) ⌝ }
 {
     let given = memory::read_in_place(registers, cells, address, buffer);
     results::give_answer(given, answer)
@@ -182,7 +182,7 @@ pub extern "C" fn mpc106_v4_write(
     bytes: &[u8],
     answer: &mut [u32; 5],
 ) -> u32
-    ensures { λ n. ⌜ memoryResult n (state (recordOf (now (registers .exit))) (now (cells .exit))) [] (now (answer .exit)) ≡ resultOfCall (writeCall columns (state (recordOf (now (registers .entry))) (now (cells .entry))) address (now (bytes .entry))) (now (answer .entry)) ⌝ }
+    ensures { λ n. ⌜ memoryResult n (lentState (now (registers .exit)) (now (cells .exit))) [] (now (answer .exit)) ≡ resultOfCall (writeCall columns (lentState (now (registers .entry)) (now (cells .entry))) address (now (bytes .entry))) (now (answer .entry)) ⌝ }
 {
     let given = memory::write_in_place(registers, cells, address, bytes);
     results::give_answer(given, answer)
@@ -196,7 +196,7 @@ pub extern "C" fn mpc106_v4_flip(
     address: u32,
     bit: u32,
 ) -> u32
-    ensures { λ n. ⌜ (n, state (recordOf (now (registers .entry))) (now (cells .exit))) ≡ flipResult (flipCall columns (state (recordOf (now (registers .entry))) (now (cells .entry))) address bit) ⌝ }
+    ensures { λ n. ⌜ (n, lentState (now (registers .entry)) (now (cells .exit))) ≡ flipResult (flipCall columns (lentState (now (registers .entry)) (now (cells .entry))) address bit) ⌝ }
 {
     let given = memory::flip_in_place(registers, cells, address, bit);
     let verdict = given.verdict;
@@ -211,7 +211,7 @@ pub extern "C" fn mpc106_v4_scrub(
     address: u32,
     answer: &mut [u32; 5],
 ) -> u32
-    ensures { λ n. ⌜ memoryResult n (state (recordOf (now (registers .exit))) (now (cells .exit))) [] (now (answer .exit)) ≡ resultOfCall (scrubCall columns (state (recordOf (now (registers .entry))) (now (cells .entry))) address) (now (answer .entry)) ⌝ }
+    ensures { λ n. ⌜ memoryResult n (lentState (now (registers .exit)) (now (cells .exit))) [] (now (answer .exit)) ≡ resultOfCall (scrubCall columns (lentState (now (registers .entry)) (now (cells .entry))) address) (now (answer .entry)) ⌝ }
 {
     let given = memory::scrub_in_place(registers, cells, address);
     results::give_answer(given, answer)
@@ -226,7 +226,7 @@ pub extern "C" fn mpc106_v4_burst_read(
     buffer: &mut [u8],
     answer: &mut [u32; 5],
 ) -> u32
-    ensures { λ n. ⌜ memoryResult n (state (recordOf (now (registers .exit))) (now (cells .entry))) (now (buffer .exit)) (now (answer .exit)) ≡ resultOfCall (burstReadCall columns (state (recordOf (now (registers .entry))) (now (cells .entry))) address (now (buffer .entry))) (now (answer .entry)) ⌝ }
+    ensures { λ n. ⌜ memoryResult n (lentState (now (registers .exit)) (now (cells .entry))) (now (buffer .exit)) (now (answer .exit)) ≡ resultOfCall (burstReadCall columns (lentState (now (registers .entry)) (now (cells .entry))) address (now (buffer .entry))) (now (answer .entry)) ⌝ }
 {
     let given = memory::burst_read_in_place(registers, cells, address, buffer);
     results::give_answer(given, answer)
@@ -241,7 +241,7 @@ pub extern "C" fn mpc106_v4_burst_write(
     bytes: &[u8],
     answer: &mut [u32; 5],
 ) -> u32
-    ensures { λ n. ⌜ memoryResult n (state (recordOf (now (registers .exit))) (now (cells .exit))) [] (now (answer .exit)) ≡ resultOfCall (burstWriteCall columns (state (recordOf (now (registers .entry))) (now (cells .entry))) address (now (bytes .entry))) (now (answer .entry)) ⌝ }
+    ensures { λ n. ⌜ memoryResult n (lentState (now (registers .exit)) (now (cells .exit))) [] (now (answer .exit)) ≡ resultOfCall (burstWriteCall columns (lentState (now (registers .entry)) (now (cells .entry))) address (now (bytes .entry))) (now (answer .entry)) ⌝ }
 {
     let given = memory::burst_write_in_place(registers, cells, address, bytes);
     results::give_answer(given, answer)

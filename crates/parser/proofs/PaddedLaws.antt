@@ -1,4 +1,4 @@
--- Bytes with zeros behind them.
+-- Bytes with zeros after them.
 use mathlib.Core.Path.{_≡_, sym, ap, _∙_}
 use mathlib.Core.List.{List, _++_}
 use Prim.Native.Nat.{ℕ, zero, suc, _+_, _-_, _≤_}

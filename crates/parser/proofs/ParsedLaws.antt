@@ -32,7 +32,7 @@ bare-as (request.Scrub a) = refl
 pub bare-asked : (p : Parsed) (q : Request) (o : Option Call) → p ≡ bareOf q → asked q [] ≡ o → p ≡ parsedAs o
 bare-asked p q o e f = e ∙ bare-as q ∙ ap parsedAs f
 
--- a write of the first n of eight bytes, with zeros behind them
+-- a write of the first n of eight bytes, with zeros after them
 pub write-as : (a n : ℕ) (bytes : List ℕ) (o : Option Call) → n ≤ length bytes → drop n bytes ≡ zeros (8 - n) → asked (request.Write a) (take n bytes) ≡ o
     → _≡_ {A = Parsed} (record { request = request.Write a; bytes = bytes; count = n }) (parsedAs o)
 unfolding parsedAs

@@ -12,7 +12,7 @@ use Rattle.parser.specs.declared.request.Parsed.{Parsed}
 use Rattle.parser.specs.declared.memory_lines.AddressAndNumber.{AddressAndNumber}
 use Rattle.parser.specs.declared.memory_lines.AddressAndNumber.the-variants as pair
 
--- an array of n bytes that begins with these and has zeros behind them
+-- an array of n bytes that begins with these and has zeros after them
 abbrev pub padded : ℕ → List ℕ → List ℕ
 padded n bs = bs ++ replicate (n - length bs) 0
 

@@ -6,7 +6,7 @@ ghost use Rattle.hex_digits.specs.Digits.{hexBytes};
 ghost use Rattle.parser.specs.CodeParsed.{bytesRead};
 use crate::digits::hex_pair;
 
-// Up to eight bytes, with zeros behind them; `ok` is false if one of them had a bad digit.
+// Up to eight bytes, with zeros after them; `ok` is false if one of them had a bad digit.
 pub struct Bytes {
     pub ok: bool,
     pub bytes: [u8; 8],

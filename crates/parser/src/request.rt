@@ -14,7 +14,7 @@ pub enum Request {
     Scrub(u32),
 }
 
-// A request with the bytes of a write, which are next to it, since an enum cannot hold an array; behind the first `count` they are 0.
+// A request with the bytes of a write, which are next to it, since an enum cannot hold an array; after the first `count` they are 0.
 pub struct Parsed {
     pub request: Request,
     pub bytes: [u8; 8],

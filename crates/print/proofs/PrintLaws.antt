@@ -75,7 +75,7 @@ parts-next ps i d h =
     let s : i + 1 ≡ suc i = omega arith in
     rw (s, take-suc ps i d h) (parts-append (take i ps) (getD ps i d ∷ []) ∙ ap (partsText (take i ps) ++_) (append-nil (kindText (getD ps i d .kind))))
 
--- out₀ with the text of the first i parts put into it from an index on, and the index behind that text
+-- out₀ with the text of the first i parts put into it from an index on, and the index after that text
 pub record Written (out₀ out : List ℕ) (from at : ℕ) (ps : List Part) (i : ℕ) : Type 0 where
   pub end : at ≡ from + length (partsText (take i ps))
   pub bytes : out ≡ sets out₀ from (partsText (take i ps))

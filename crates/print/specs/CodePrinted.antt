@@ -12,7 +12,7 @@ use Rattle.print.specs.Output.{outcomeText, kindsText, kindsAndBytesText
 abbrev pub longestOutputLine : ℕ
 longestOutputLine = 41
 
--- the length of a text, and the output with the text at its start; the bytes behind the text stay as they were
+-- the length of a text, and the output with the text at its start; the bytes after the text stay as they were
 abbrev pub atStart : List ℕ → List ℕ → ℕ × List ℕ
 atStart text out = (length text, text ++ drop (length text) out)
 

@@ -48,7 +48,7 @@ kindLetter Stored = 0x70
 kindLetter NoBank = 0x65
 kindLetter Flipped = 0x66
 
--- LINE-14, MEM-19: the field behind that letter: the flip bit of "corrected", in decimal
+-- LINE-14, MEM-19: the field after that letter: the flip bit of "corrected", in decimal
 unfoldable pub bitText : Kind → List ℕ
 bitText Clean = []
 bitText (Corrected b) = 0x2C ∷ decimal b

@@ -61,7 +61,7 @@ pub fn kinds(letter: u8, answer: Answer, out: &mut [u8]) -> usize
     }
 }
 
-// The line for a read of these bytes; what stands behind the first 8 is left out.
+// The line for a read of these bytes; what comes after the first 8 is left out.
 pub fn read(answer: Answer, bytes: &[u8], out: &mut [u8]) -> usize
     ensures { λ n. ⌜ (n, now (out .exit)) ≡ printInto (readLine answer (take 8 (now (bytes .entry)))) (now (out .entry)) ⌝ }
 {

@@ -22,7 +22,7 @@ pub(crate) fn least(a: usize, b: usize) -> usize
     if a < b { a } else { b }
 }
 
-// Writes a number below 100 in decimal from an index on, and returns the index behind it. Of a larger one it writes the two bytes that `decimal` has.
+// Writes a number below 100 in decimal from an index on, and returns the index after it. Of a larger one it writes the two bytes that `decimal` has.
 fn write_decimal(n: u8, out: &mut [u8], at: usize) -> usize
     requires { ⌜ at + 2 ≤ length (now out) ⌝ }
     ensures { λ end. ⌜ (end ≡ at + length (decimal n)) × (now (out .exit) ≡ sets (now (out .entry)) at (decimal n)) × (end ≤ at + 2) ⌝ }
@@ -89,7 +89,7 @@ fn kind_letter(kind: Kind) -> u8
     }
 }
 
-// Writes the flip bit of "corrected" from an index on, with a comma before it, and returns the index behind it.
+// Writes the flip bit of "corrected" from an index on, with a comma before it, and returns the index after it.
 fn write_bit(kind: Kind, out: &mut [u8], at: usize) -> usize
     requires { ⌜ at + 3 ≤ length (now out) ⌝ }
     ensures { λ end. ⌜ (end ≡ at + length (bitText kind)) × (now (out .exit) ≡ sets (now (out .entry)) at (bitText kind)) × (end ≤ at + 3) ⌝ }
@@ -107,7 +107,7 @@ fn write_bit(kind: Kind, out: &mut [u8], at: usize) -> usize
     }
 }
 
-// Writes the kinds of the first `count` parts from index 3 on, and returns the index behind them.
+// Writes the kinds of the first `count` parts from index 3 on, and returns the index after them.
 fn write_kinds(parts: [Part; 4], count: usize, out: &mut [u8]) -> usize
     requires { ⌜ longestOutputLine ≤ length (now out) ⌝ }
     ensures { λ n. ⌜ (n ≡ 3 + length (kindsText (kindsIn (take count parts)))) × (now (out .exit) ≡ sets (now (out .entry)) 3 (kindsText (kindsIn (take count parts)))) × (n ≤ 23) ⌝ }

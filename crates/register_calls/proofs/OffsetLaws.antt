@@ -9,7 +9,6 @@ use lib.Dec.{ltb}
 use borrow.Author.Tests.{ltb-true, ltb-false, lt-leb}
 use Rattle.basics.proofs.Bools.{and-false, not-of}
 use Rattle.basics.proofs.RangeLaws.{byCases, contra}
-use Rattle.refusals.specs.Paper.{_else_}
 use Rattle.refusals.proofs.ChainLaws.{else-left, cause-fails}
 use Rattle.registers.specs.declared.Registers.{Registers}
 use Rattle.register_calls.specs.Calls.{listed, declined}

@@ -52,7 +52,7 @@ bitOf Flipped = 0
 abbrev pub partCode : Kind → ℕ
 partCode k = kindCode k + 256 * bitOf k
 
--- the number of the part at a place of an answer, and 0 behind the last part
+-- the number of the part at a place of an answer, and 0 past the last part
 abbrev pub partAt : List Kind → ℕ → ℕ
 partAt [] i = 0
 partAt (k ∷ ks) zero = partCode k

@@ -76,7 +76,7 @@ fn flip_bit(k: Kind) -> u8
 }
 
 // Most parts are clean: where the compiler knows it, it stores their number without a look at the bit.
-fn part(k: Kind) -> u32
+fn part_code(k: Kind) -> u32
     ensures { λ n. ⌜ n ≡ partCode k ⌝ }
 {
     match k {
@@ -91,7 +91,7 @@ fn part_at(parts: [Part; 4], i: usize) -> u32
 {
     let x = parts[i];
     let k = x.kind;
-    part(k)
+    part_code(k)
 }
 
 // Most answers have one part: where the compiler knows that, it stores the number of it without a look at the others.

@@ -22,7 +22,7 @@ fn column_of(columns: [u8; 64], bit: u8) -> u8 {
     1 << (bit % 8)
 }
 
-// Eight flip bits stand in a line, behind the number of the first.
+// Eight flip bits stand in a line, after the number of the first.
 fn print_column(columns: [u8; 64], bit: u8) {
     if bit % 8 == 0 {
         io::write_all(1, b"| ");
@@ -56,7 +56,7 @@ fn print_entry(entry: u8) {
     }
 }
 
-// Sixteen syndromes stand in a line, behind their high digit.
+// Sixteen syndromes stand in a line, after their high digit.
 fn print_syndrome(s: u8) {
     if s % 16 == 0 {
         io::write_all(1, b"| ");

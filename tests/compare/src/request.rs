@@ -32,13 +32,13 @@ pub enum Request {
 #[derive(Clone, PartialEq, Eq)]
 pub struct State {
     pub record: Record,
-    /// The lent cells with the guard behind them.
+    /// The lent cells with the guard after them.
     storage: Vec<u8>,
 }
 
 /// All that one call gives: what it returned, what it put in the lent numbers
 /// and the lent byte, and the buffer of a read or burst read with the guard
-/// behind it.
+/// after it.
 #[derive(Clone, Debug, PartialEq, Eq)]
 pub struct Given {
     pub result: u32,

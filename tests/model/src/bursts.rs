@@ -75,8 +75,8 @@ fn judge(record: &Record, lent: usize, address: u32, count: usize) -> Result<[Be
     ])
 }
 
-/// The beat at an address, or refusal 9. Inlined by name: a result that goes
-/// through memory costs more than finding the cell.
+/// The beat at an address, or refusal 9. Inlined by name: a result that is
+/// spilled to the stack costs more than finding the cell.
 #[inline(always)]
 fn lent_beat(layout: &Layout, lent: usize, address: u32) -> Result<Beat, Refusal> {
     let cell = memory::lent_cell(layout, lent, address)?;

@@ -163,7 +163,7 @@ impl FlatMachine {
     }
 }
 
-/// MEM-14: the doubleword asked for and those behind it in its line, then those
+/// MEM-14: the doubleword asked for and those after it in its line, then those
 /// before it. Written in another way than for the cells, see [`check_access`].
 fn beats(address: u32) -> impl Iterator<Item = u32> {
     let line = address & !0x1F;

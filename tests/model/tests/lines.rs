@@ -167,7 +167,7 @@ fn random_scripts_meet_everything() {
         assert!(starts.contains(expected), "{expected} is missing");
     }
     // The last doubleword of a bank is never lent here, so no split has "no
-    // bank" behind another answer.
+    // bank" after another answer.
     let both = [
         "n,n", "n,c", "n,u", "c,n", "c,c", "c,u", "u,n", "u,c", "u,u",
     ];

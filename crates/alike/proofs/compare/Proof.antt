@@ -1,3 +1,5 @@
+-- The loop's invariant: the first n banks are the same (`every-more`); one that differs ends it (`every-stops`). If both records are ready, the tests
+-- of the eight banks decide (`records-alike`).
 use borrow.Author.Needs.{needs}
 use borrow.Author.Tests.{not-true, not-false}
 use Prim.Native.Nat.{ℕ, _-_, _≤_, _<_}

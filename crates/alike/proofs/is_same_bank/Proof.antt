@@ -1,3 +1,4 @@
+-- Two enabled banks are compared by their parts, as `both-on` has it; otherwise `sameBank` is that both are disabled.
 use Rattle.alike.specs.CodeMegabyte.{sameBank}
 use Rattle.alike.proofs.BankLaws.{both-on}
 use borrow.Author.Needs.{needs}

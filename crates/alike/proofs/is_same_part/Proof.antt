@@ -1,3 +1,4 @@
+-- A megabyte number below 1024 keeps all its bits when it is shifted, so that the rows are those that `samePart` compares.
 use Prim.Native.Nat.{_*_, _%_, _^_}
 use mathlib.Core.Path.{_≡_}
 use native.Mathlib.Omega.{arith}

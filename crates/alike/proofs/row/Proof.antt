@@ -1,3 +1,4 @@
+-- A mask of as many ones as there are row and column bits leaves the cell in the bank: `one-shl` for the mask, `and-mask` for the remainder.
 use Prim.Native.Nat.{_+_, _/_}
 use native.Mathlib.Omega.{arith}
 use lib.Bits.{and-mask}

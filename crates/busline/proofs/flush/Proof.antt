@@ -1,3 +1,4 @@
+-- The part that is written has n bytes, because the output has at least so many (`length-take-le`).
 use native.Mathlib.Omega.{arith}
 use mathlib.Core.Path.{sym}
 use lib.Seq.{length-take-le}

@@ -1,3 +1,4 @@
+-- Each of the three arrays is as long as the slice that is lent of it, by `length-replicate`.
 use mathlib.Core.Path.{sym}
 use Prim.Native.Nat.{ℕ}
 use lib.ListN.{length-replicate}

@@ -1,3 +1,4 @@
+-- The loop ends because its turns are counted down; its invariant is that cells, chunk and output keep their lengths.
 use native.Mathlib.Omega.{arith}
 use mathlib.Core.Path.{_≡_, refl}
 use lib.ListN.{length}

@@ -1,4 +1,4 @@
--- MAP-8: eight bytes as they are, and the check byte behind them.
+-- MAP-8: eight bytes as they are, and the check byte after them.
 use borrow.Author.Needs.{needs}
 use mathlib.Core.Path.{ap₂, _∙_}
 use mathlib.Core.List.{List, [], _∷_, _++_}

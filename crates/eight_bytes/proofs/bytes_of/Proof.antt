@@ -1,3 +1,4 @@
+-- The quotients and remainders by 256 are those of `bytesIn`, one after the other.
 use mathlib.Core.Path.{refl}
 use borrow.Author.Needs.{needs}
 use Rattle.eight_bytes.proofs.bytes_of.Statement.{statement}

@@ -1,3 +1,4 @@
+-- From byte 0 on it is the first number (`append-nil`); else the two shifted parts do not meet (`across-fits`) and have these bytes (`across-bytes`).
 use Prim.Native.Nat.{_%_}
 use native.Mathlib.Omega.{arith}
 use mathlib.Core.Path.{_≡_, sym}

@@ -1,3 +1,4 @@
+-- Where there are fewer than eight bytes, 0 (`eight-none`); else the number of eight that are read one by one (`eight-read`).
 use native.Mathlib.Omega.{arith}
 use mathlib.Core.Path.{_∙_}
 use Rattle.eight_bytes.proofs.ByteLaws.{eight-none, eight-read}

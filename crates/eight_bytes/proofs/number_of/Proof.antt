@@ -1,3 +1,4 @@
+-- The numbers of four bytes each make that of all eight, which has these bytes (`number-bytes`).
 use native.Mathlib.Omega.{arith}
 use mathlib.Core.Path.{_≡_}
 use mathlib.Core.List.{List, [], _∷_}

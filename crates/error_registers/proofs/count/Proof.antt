@@ -1,3 +1,4 @@
+-- Below 255 the counter rises (`lt-ltb`), and `is_triggered` decides between the cases of `rose`; at 255 nothing is stored (`le-ltb`).
 use borrow.Author.Tests.{lt-ltb, le-ltb}
 use Rattle.error_registers.specs.Errors.{counted, rose}
 use borrow.Author.Needs.{needs}

@@ -1,3 +1,4 @@
+-- The bit that is set is a power of two (`one-shl`), and `is_undetected`, asked before it is set, decides between the cases of `detected`.
 use native.Mathlib.Omega.{arith}
 use Rattle.basics.proofs.Shifts.{one-shl}
 use Rattle.error_registers.specs.Errors.{detected}

@@ -1,3 +1,4 @@
+-- A mask of a single one leaves the remainder by 2 of the shifted byte, by `and-mask`.
 use Prim.Native.Nat.{ℕ, _/_, _^_}
 use lib.Bits.{and-mask}
 use lib.Dec.{eqb}

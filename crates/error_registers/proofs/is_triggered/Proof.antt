@@ -1,3 +1,4 @@
+-- `triggered` is this comparison of counter and trigger, and the enable bit by `is_set`.
 use Rattle.error_registers.specs.Errors.{triggered}
 use borrow.Author.Needs.{needs}
 use Rattle.error_registers.proofs.is_triggered.Statement.{statement}

@@ -1,3 +1,4 @@
+-- `undetected` is these two comparisons of C1 and C5 with 0.
 use mathlib.Core.Path.{refl}
 use Rattle.error_registers.specs.Errors.{undetected}
 use borrow.Author.Needs.{needs}

@@ -1,3 +1,4 @@
+-- The four stores are those of `withErrorAddress`, from the lowest byte of the address on.
 use mathlib.Core.Path.{refl}
 use Rattle.error_registers.specs.Errors.{withErrorAddress}
 use borrow.Author.Needs.{needs}

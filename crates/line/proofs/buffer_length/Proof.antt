@@ -1,3 +1,4 @@
+-- A count above 8 gets a buffer of 9 bytes (`lt-ltb`), and any other one of its own length (`le-ltb`).
 use borrow.Author.Tests.{lt-ltb, le-ltb}
 use Rattle.line.proofs.buffer_length.Statement.{statement}
 use Rattle.line.proofs.buffer_length.Tie as tie

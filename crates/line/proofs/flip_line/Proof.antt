@@ -1,3 +1,4 @@
+-- The verdict is the text of a flip (`flip-text`), which leaves the record as it was (`flip-line`); there is room for it (`line-printed`).
 use native.Mathlib.Omega.{arith}
 use Rattle.ecc.specs.Columns.{columns}
 use Rattle.registers.specs.Record.{recordOf}

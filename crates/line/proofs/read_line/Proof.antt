@@ -1,3 +1,5 @@
+-- The buffer is a part of nine zeros (`buffer-fits`). What was read into it is the text of the read, also of one of more than 8 bytes, which is
+-- executed as one of 9 (`read-line`); there is room for it (`line-printed`).
 use native.Mathlib.Omega.{arith}
 use mathlib.Core.Path.{_≡_, sym, ap, _∙_}
 use mathlib.Core.List.{List, [], _∷_, _++_}

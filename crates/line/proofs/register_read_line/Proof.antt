@@ -1,3 +1,4 @@
+-- Whatever the cells are, the text is that of what was read and nothing is changed (`register-read-line`); there is room for it (`line-printed`).
 use native.Mathlib.Omega.{arith}
 use Rattle.ecc.specs.Columns.{columns}
 use Rattle.registers.specs.Record.{recordOf}

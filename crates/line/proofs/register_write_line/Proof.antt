@@ -1,3 +1,4 @@
+-- Whatever the cells are, the text is the verdict and the record is that of `write` (`register-write-line`); there is room for it (`line-printed`).
 use native.Mathlib.Omega.{arith}
 use Rattle.ecc.specs.Columns.{columns}
 use Rattle.registers.specs.Record.{recordOf}

@@ -1,3 +1,4 @@
+-- The kinds of the answer are the text of a write (`write-text`), which leaves what its call does (`memory-line`); there is room (`line-printed`).
 use native.Mathlib.Omega.{arith}
 use Rattle.ecc.specs.Columns.{columns}
 use Rattle.registers.specs.Record.{recordOf}

@@ -1,3 +1,5 @@
+-- The number has these eight bytes (`eight-some`, `eight-are`), and its lowest mark is that of the first LF (`first-of-eight`). The sum is
+-- below 2^64, because the first of its terms is masked (`and-le-r`).
 use native.Mathlib.Omega.{arith}
 use Prim.Native.Nat.{_^_, _<_}
 use mathlib.Core.Path.{_∙_}

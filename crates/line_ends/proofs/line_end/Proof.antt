@@ -1,3 +1,5 @@
+-- The loop's invariant: the search from i on ends where that from the start does. Eight bytes hold an LF (`within-eight`) or are passed over
+-- (`past-eight`); fewer are left to `rest_end`, and past the end there is none (`length-end`).
 use native.Mathlib.Omega.{arith}
 use Prim.Native.Nat.{_+_, _-_, _≤_}
 use mathlib.Core.Path.{_≡_, refl}

@@ -1,3 +1,5 @@
+-- The loop's invariant: the search from i on ends where that from the start does (`length-past`). It ends at an LF (`length-lf`) or at the end of the
+-- chunk (`length-end`).
 use Prim.Native.Nat.{_+_, _-_, _≤_}
 use native.Mathlib.Omega.{arith}
 use mathlib.Core.Path.{_≡_, refl}

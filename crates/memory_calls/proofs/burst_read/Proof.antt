@@ -1,3 +1,4 @@
+-- The contract of `burst_read_in_place` for a copy of the record, which is returned after its four reads.
 use borrow.Author.Needs.{needs}
 use Rattle.memory_calls.proofs.burst_read.Statement.{statement}
 use Rattle.memory_calls.proofs.burst_read.Tie as tie

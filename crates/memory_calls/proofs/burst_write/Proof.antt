@@ -1,3 +1,4 @@
+-- The contract of `burst_write_in_place` for a copy of the record, which is returned after its four writes.
 use borrow.Author.Needs.{needs}
 use Rattle.memory_calls.proofs.burst_write.Statement.{statement}
 use Rattle.memory_calls.proofs.burst_write.Tie as tie

@@ -1,3 +1,4 @@
+-- The contract of `flip_in_place` for a copy of the record; the record is returned as it was passed in.
 use borrow.Author.Needs.{needs}
 use Rattle.memory_calls.proofs.flip.Statement.{statement}
 use Rattle.memory_calls.proofs.flip.Tie as tie

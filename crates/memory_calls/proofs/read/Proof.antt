@@ -1,3 +1,4 @@
+-- The contract of `read_in_place` for a copy of the record, which is returned after the read.
 use borrow.Author.Needs.{needs}
 use Rattle.memory_calls.proofs.read.Statement.{statement}
 use Rattle.memory_calls.proofs.read.Tie as tie

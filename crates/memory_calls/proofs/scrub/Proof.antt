@@ -1,3 +1,4 @@
+-- The contract of `scrub_in_place` for a copy of the record, which is returned after the scrub.
 use borrow.Author.Needs.{needs}
 use Rattle.memory_calls.proofs.scrub.Statement.{statement}
 use Rattle.memory_calls.proofs.scrub.Tie as tie

@@ -1,3 +1,4 @@
+-- The contract of `write_in_place` for a copy of the record, which is returned after the write.
 use borrow.Author.Needs.{needs}
 use Rattle.memory_calls.proofs.write.Statement.{statement}
 use Rattle.memory_calls.proofs.write.Tie as tie

@@ -1,3 +1,4 @@
+-- The three answers of `compare`: a refusal by `of_refusal`, 1 if the records are alike, and 0 if they are not.
 use borrow.Author.Needs.{needs}
 use Rattle.mpc106.proofs.mpc106_v4_alike.Statement.{statement}
 use Rattle.mpc106.proofs.mpc106_v4_alike.Tie as tie

@@ -1,3 +1,4 @@
+-- The two answers of `cell_count`: "not ready" by `of_refusal`, or the number of cells.
 use borrow.Author.Needs.{needs}
 use Rattle.mpc106.proofs.mpc106_v4_cell_count.Statement.{statement}
 use Rattle.mpc106.proofs.mpc106_v4_cell_count.Tie as tie

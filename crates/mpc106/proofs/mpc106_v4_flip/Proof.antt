@@ -1,3 +1,4 @@
+-- A flip gives no more than its verdict, by `flip-of`: what `flip_in_place` leaves, and what `of_verdict` makes of the verdict.
 use Rattle.mpc106.proofs.AnswerLaws.{flip-of}
 use borrow.Author.Needs.{needs}
 use Rattle.mpc106.proofs.mpc106_v4_flip.Statement.{statement}

@@ -1,3 +1,4 @@
+-- The verdict is that of `judge`, returned as `of_verdict` has it.
 use borrow.Author.Needs.{needs}
 use Rattle.mpc106.proofs.mpc106_v4_judge.Statement.{statement}
 use Rattle.mpc106.proofs.mpc106_v4_judge.Tie as tie

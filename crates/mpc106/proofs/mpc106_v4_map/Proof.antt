@@ -1,3 +1,4 @@
+-- The three answers of `map`: a refusal by `of_refusal`, five zeros for no bank, or the numbers of the place.
 use borrow.Author.Needs.{needs}
 use Rattle.mpc106.proofs.mpc106_v4_map.Statement.{statement}
 use Rattle.mpc106.proofs.mpc106_v4_map.Tie as tie

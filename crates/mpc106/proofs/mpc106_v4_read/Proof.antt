@@ -1,3 +1,4 @@
+-- The result of a read, by `result-of`: what `read_in_place` leaves in record and buffer, and its answer as `give_answer` puts it.
 use Rattle.mpc106.proofs.AnswerLaws.{result-of}
 use borrow.Author.Needs.{needs}
 use Rattle.mpc106.proofs.mpc106_v4_read.Statement.{statement}

@@ -1,3 +1,4 @@
+-- The two answers of `read`: a refusal by `of_refusal`, or the byte of the register.
 use borrow.Author.Needs.{needs}
 use Rattle.mpc106.proofs.mpc106_v4_register_read.Statement.{statement}
 use Rattle.mpc106.proofs.mpc106_v4_register_read.Tie as tie

@@ -1,3 +1,4 @@
+-- The record is that of `write_in_place`, and its verdict is returned as `of_verdict` has it.
 use borrow.Author.Needs.{needs}
 use Rattle.mpc106.proofs.mpc106_v4_register_write.Statement.{statement}
 use Rattle.mpc106.proofs.mpc106_v4_register_write.Tie as tie

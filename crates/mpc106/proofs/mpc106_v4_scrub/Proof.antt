@@ -1,3 +1,4 @@
+-- The result of a scrub, by `result-of`: what `scrub_in_place` leaves, and its answer as `give_answer` puts it.
 use Rattle.mpc106.proofs.AnswerLaws.{result-of}
 use borrow.Author.Needs.{needs}
 use Rattle.mpc106.proofs.mpc106_v4_scrub.Statement.{statement}

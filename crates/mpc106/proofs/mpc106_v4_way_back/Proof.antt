@@ -1,3 +1,4 @@
+-- The two answers of `way_back`: a refusal by `of_refusal`, or the address.
 use borrow.Author.Needs.{needs}
 use Rattle.mpc106.proofs.mpc106_v4_way_back.Statement.{statement}
 use Rattle.mpc106.proofs.mpc106_v4_way_back.Tie as tie

@@ -1,3 +1,4 @@
+-- Without room nothing is printed (`print-none`); else the verdict decides between the number of the refusal and the kinds (`print-is`).
 use native.Mathlib.Omega.{arith}
 use mathlib.Core.Path.{sym, ap, _∙_}
 use mathlib.Core.List.{List}

@@ -1,3 +1,4 @@
+-- Without room nothing is printed (`print-none`); else the refusal's number, or the kinds and the first 8 bytes (`print-is`, `take-least`).
 use native.Mathlib.Omega.{arith}
 use mathlib.Core.Path.{_≡_, sym, ap, _∙_}
 use mathlib.Core.List.{List}

@@ -1,3 +1,4 @@
+-- Without room nothing is printed (`print-none`); else the number of the refusal or the value, as `registerReadText` has it (`print-is`).
 use native.Mathlib.Omega.{arith}
 use mathlib.Core.Path.{sym, ap, _∙_}
 use Rattle.print.proofs.PrintLaws.{print-none, print-is}

@@ -1,3 +1,4 @@
+-- Without room nothing is printed (`print-none`); else one of the two cases of `verdictText`, as the verdict has it (`print-is`).
 use native.Mathlib.Omega.{arith}
 use mathlib.Core.Path.{sym, ap, _∙_}
 use Rattle.print.proofs.PrintLaws.{print-none, print-is}

@@ -1,3 +1,4 @@
+-- Each of the twenty refusals, in its own case, has the number that comes first in `paper`.
 use borrow.Author.Needs.{needs}
 use Rattle.refusals.proofs.number.Statement.{statement}
 use Rattle.refusals.proofs.number.Tie as tie

@@ -1,3 +1,4 @@
+-- `clearing` is these two comparisons, with C1 and C5.
 use mathlib.Core.Path.{refl}
 use Rattle.register_calls.specs.Calls.{clearing}
 use Rattle.register_calls.proofs.is_clearing.Statement.{statement}

@@ -1,3 +1,4 @@
+-- `listed` is these six ranges.
 use mathlib.Core.Path.{refl}
 use Rattle.register_calls.specs.Calls.{listed}
 use Rattle.register_calls.proofs.is_listed.Statement.{statement}

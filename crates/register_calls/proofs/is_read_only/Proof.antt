@@ -1,3 +1,4 @@
+-- `readOnly` is this range, C8 to CB.
 use mathlib.Core.Path.{refl}
 use Rattle.register_calls.specs.Calls.{readOnly}
 use Rattle.register_calls.proofs.is_read_only.Statement.{statement}

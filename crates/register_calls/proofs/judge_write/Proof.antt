@@ -1,3 +1,4 @@
+-- The tests come in the order of `declined`. A listed offset is that of a byte (`listed-below`), and `judge` answers where `switchesOn` holds.
 use mathlib.Core.Path.{sym, _∙_}
 use borrow.Author.Tests.{not-false}
 use Rattle.register_calls.proofs.OffsetLaws.{listed-below}

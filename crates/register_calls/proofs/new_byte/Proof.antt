@@ -1,3 +1,4 @@
+-- The two cases of `newByte`, which `is_clearing` decides.
 use Rattle.register_calls.specs.Calls.{newByte}
 use borrow.Author.Needs.{needs}
 use Rattle.register_calls.proofs.new_byte.Statement.{statement}

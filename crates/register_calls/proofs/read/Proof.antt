@@ -1,3 +1,4 @@
+-- The two cases of `readAt`, which `is_listed` decides; a listed offset is that of a byte of the record (`listed-below`).
 use mathlib.Core.Path.{sym, _∙_}
 use Rattle.register_calls.proofs.OffsetLaws.{listed-below}
 use Rattle.register_calls.specs.Calls.{readAt}

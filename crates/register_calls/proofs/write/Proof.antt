@@ -1,3 +1,4 @@
+-- What `write_in_place` leaves in a copy of the record and returns is what the write gives.
 use borrow.Author.Needs.{needs}
 use Rattle.register_calls.proofs.write.Statement.{statement}
 use Rattle.register_calls.proofs.write.Tie as tie

@@ -1,3 +1,4 @@
+-- The verdict is `declined`. An accepted write has the offset of a byte (`accepted-below`) and stores the new one there; a refused one stores none.
 use mathlib.Core.Path.{sym, ap, _∙_}
 use Rattle.refusals.specs.Paper.{paperVerdict}
 use Rattle.registers.specs.Record.{recordOf}

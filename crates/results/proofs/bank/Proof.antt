@@ -1,3 +1,4 @@
+-- Refusals 12, 13 and 14 give their bank; none of the others has one, by `no-bank`.
 use mathlib.Core.Path.{_≡_, refl}
 use Prim.Native.Nat.{ℕ}
 use mathlib.Core.List.{List, [], _∷_}

@@ -1,3 +1,4 @@
+-- The cases of `bitOf`: "corrected" has its flip bit, and each other kind has 0.
 use borrow.Author.Needs.{needs}
 use Rattle.results.proofs.flip_bit.Statement.{statement}
 use Rattle.results.proofs.flip_bit.Tie as tie

@@ -1,3 +1,4 @@
+-- An accepted call returns 0 and its parts by `put_parts`; a refused one returns its refusal by `of_refusal` and leaves the lent numbers.
 use borrow.Author.Needs.{needs}
 use Rattle.results.proofs.give_answer.Statement.{statement}
 use Rattle.results.proofs.give_answer.Tie as tie

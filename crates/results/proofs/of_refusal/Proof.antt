@@ -1,3 +1,4 @@
+-- `refusalCode` of what `number` and `bank` give: the number, and 256 times the bank.
 use borrow.Author.Needs.{needs}
 use Rattle.results.proofs.of_refusal.Statement.{statement}
 use Rattle.results.proofs.of_refusal.Tie as tie

@@ -1,3 +1,4 @@
+-- The two cases of `resultOfVerdict`: 0, or the number of the refusal by `of_refusal`.
 use borrow.Author.Needs.{needs}
 use Rattle.results.proofs.of_verdict.Statement.{statement}
 use Rattle.results.proofs.of_verdict.Tie as tie

@@ -1,3 +1,5 @@
+-- One part by `one-part`. Of others the loop's invariant is that the first i parts are put (`next-part`); it ends with all of them (`none-next`), and
+-- i is their count (`few`).
 use Prim.Native.Nat.{suc, _+_, _-_, _≤_}
 use native.Mathlib.Omega.{arith}
 use mathlib.Core.Path.{_≡_, refl}

@@ -1,3 +1,5 @@
+-- The number found is `doublewordFor`, because the shifted one is a power of two (`one-shl`). Within the span it is that of the address
+-- (`address-given`); if it is beyond, there is no address (`address-none`).
 use Prim.Native.Nat.{ℕ, _+_, _*_, _%_, _^_, _≤_, _<_}
 use mathlib.Core.Path.{_≡_, sym, ap, _∙_}
 use native.Mathlib.Omega.{arith}

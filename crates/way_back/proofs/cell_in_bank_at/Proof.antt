@@ -1,3 +1,4 @@
+-- The factor is a power of two (`one-shl`), and the cell is below those of the bank (`cell-in-bank-below`), which fit in 32 bits (`cells-most`).
 use Prim.Native.Nat.{_+_, _*_, _^_, _<_}
 use mathlib.Core.Bool.{true}
 use mathlib.Core.Path.{_≡_}

@@ -1,3 +1,4 @@
+-- The two shifted ones are the powers of two that `inRange` compares with, by `one-shl`.
 use native.Mathlib.Omega.{arith}
 use Rattle.basics.proofs.Shifts.{one-shl}
 use Rattle.way_back.specs.WayBack.{inRange}

@@ -1,3 +1,4 @@
+-- A quotient times n is at most the start (`div-mul-le-self`), so that the sums stay below 2^28; the test is the contract's (`lt-ltb`, `le-ltb`).
 use native.Mathlib.Omega.{arith}
 use native.Mathlib.Nat.{div-mul-le-self}
 use borrow.Author.Tests.{lt-ltb, le-ltb}

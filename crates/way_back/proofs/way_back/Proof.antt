@@ -1,3 +1,4 @@
+-- The tests come in the order of `back`: an enabled bank is one of the eight (`enabled-below`), and a decoded one keeps to its bounds (`bounded`).
 use Prim.Native.Nat.{ℕ, _<_}
 use borrow.Author.Tests.{not-true, not-false}
 use mathlib.Core.Path.{sym, _∙_}

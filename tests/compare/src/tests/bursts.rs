@@ -52,7 +52,7 @@ pub fn edges(rng: &mut Rng) -> Result<String, String> {
 }
 
 /// Every number of bytes with which lent cells can end in a line or in the cell
-/// behind it, and each doubleword of the line as the first one.
+/// after it, and each doubleword of the line as the first one.
 pub fn partly_lent(rng: &mut Rng) -> Result<String, String> {
     let mut coverage = Coverage::new();
     for _ in 0..LENT_CASES {

@@ -79,7 +79,7 @@ fn starts(length: u32) -> Vec<u32> {
     starts
 }
 
-/// Banks one behind the other, in any order of their numbers and with gaps; now
+/// Banks one after the other, in any order of their numbers and with gaps; now
 /// and then two of them meet.
 fn several(rng: &mut Rng) -> Record {
     let mut off = Record::fresh();

@@ -31,7 +31,7 @@ const HEADS: &[&str] = &[
 ];
 
 /// The answers of splits (LINE-14) that the random scripts must produce, of
-/// reads and of writes. A part without a bank behind one that has a bank is not
+/// reads and of writes. A part without a bank, after one that has a bank, is not
 /// among them: the cell of the one before it is not lent to `busline`.
 const SPLITS: &[&str] = &[
     "n,n", "n,c", "n,u", "c,n", "c,c", "c,u", "u,n", "u,c", "u,u", "e,n", "e,c", "e,u", "e,e",

@@ -93,7 +93,7 @@ struct Follower {
 
 impl Follower {
     /// One access: its answer, and that writes and scrubs leave a right cell
-    /// behind unless it is lost.
+    /// unless it is lost.
     fn access(&mut self, record: &Record, line: &Line, address: u32) -> Answer {
         let Some(place) = map(record, address).unwrap() else {
             return NoBank;
@@ -110,7 +110,7 @@ impl Follower {
         answer
     }
 
-    /// An accepted line: what it must have printed behind the 0.
+    /// An accepted line: what it must have printed after the 0.
     fn accepted(&mut self, record: &Record, text: &str) -> Option<String> {
         if let Some(("f", rest)) = text.split_once(',') {
             let (address, bit) = rest.split_once(',').unwrap();

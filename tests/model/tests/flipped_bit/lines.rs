@@ -81,7 +81,7 @@ fn bits_of_one_digit_and_of_two() {
     }
 }
 
-/// Both fields of a split, each behind its own letter.
+/// Both fields of a split, each after its own letter.
 #[test]
 fn two_bits_of_a_split() {
     for (lower, first) in PRINTED {

@@ -50,7 +50,7 @@ pub(crate) fn parts() -> impl Iterator<Item = Range<usize>> {
 }
 
 /// MEM-17: how many bytes of a split can stand before an edge and how many
-/// behind it.
+/// after it.
 pub(crate) fn split_counts() -> impl Iterator<Item = (usize, usize)> {
     (1..8).flat_map(|front| (1..=8 - front).map(move |back| (front, back)))
 }

@@ -24,7 +24,7 @@ fn two_banks() -> Record {
     switched_on(&[(0x90, 1), (0x81, 2), (0x91, 4), (0xA0, 3), (0xF0, 0b01_00)])
 }
 
-/// Bank 0: MB 1, with cells 0 to 131,071. Bank 1: MB 0, with as many behind.
+/// Bank 0: MB 1, with cells 0 to 131,071. Bank 1: MB 0, with as many after them.
 fn upper_bank_first() -> Record {
     switched_on(&[(0x80, 1), (0x90, 1), (0xA0, 3)])
 }

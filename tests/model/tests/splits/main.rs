@@ -19,7 +19,7 @@ pub(crate) const LOWER: u32 = 0x20;
 pub(crate) const UPPER: u32 = 0x28;
 
 /// MEM-17, written out: how many bytes of a split can stand before an edge and
-/// how many behind it.
+/// how many after it.
 pub(crate) fn splits() -> impl Iterator<Item = (u32, u32)> {
     (1..=7).flat_map(|before| (1..=8 - before).map(move |behind| (before, behind)))
 }

@@ -69,7 +69,7 @@ fn places_shared_by_128_and_129_megabytes() {
 }
 
 /// ALIKE-2: bank 0 has MB 0 with 2^17 cells or, with ten row bits, 2^18. Row and
-/// column are the same, the cells of the long bank behind it are not.
+/// column are the same, the cells of the long bank after it are not.
 #[test]
 fn cell_numbers_do_not_count() {
     let one = on(&[(0, 0, 0, 0), (1, 200, 400, 3)]);

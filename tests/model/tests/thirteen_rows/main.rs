@@ -82,7 +82,7 @@ pub(crate) fn has_place(record: &Record, address: u32, n: u8, place: (u32, u32, 
     assert_eq!(found, Ok(Some(expected)), "{address:08x}");
 }
 
-/// The largest set-up: seven banks of 129 MB and behind them one of 121 MB, from
+/// The largest set-up: seven banks of 129 MB and after them one of 121 MB, from
 /// MB 0 to MB 1023. 7 * 2^25 + 2^24 cells.
 pub(crate) const LARGEST: [Card; 8] = [
     (0, 0, 128, 3),

@@ -1,7 +1,6 @@
 -- Not ready by the route, and otherwise as the arguments have it.
 use borrow.Author.Tests.{lt-ltb, le-ltb}
 use native.Mathlib.Omega.{arith}
-use mathlib.Core.Path.{sym, _∙_}
 use Rattle.address_map.specs.CodeRoute.{bankIn}
 use borrow.Author.Needs.{needs}
 use Rattle.access.proofs.admission.admit.Statement.{statement}

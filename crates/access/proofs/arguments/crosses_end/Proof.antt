@@ -1,3 +1,4 @@
+-- The byte of an address and the room there make 8 (`room-ends`), so that a count above the room is one that `crosses`.
 use Prim.Native.Nat.{_+_, _%_}
 use native.Mathlib.Omega.{arith}
 use borrow.Author.Tests.{lt-ltb, le-ltb, ltb-true, ltb-false}

@@ -1,3 +1,4 @@
+-- `room` is this difference.
 use mathlib.Core.Path.{refl}
 use Rattle.calls.specs.Calls.{room}
 use borrow.Author.Needs.{needs}

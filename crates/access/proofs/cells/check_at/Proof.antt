@@ -1,3 +1,4 @@
+-- Byte 9 k + 8 is lent (`lent-fits`), and it is the last of cell k (`cell-byte`).
 use native.Mathlib.Omega.{arith}
 use Rattle.ecc.proofs.CellLaws.{lent-fits}
 use Rattle.ecc.proofs.CellLaws.{cell-byte}

@@ -1,3 +1,4 @@
+-- Eight bytes from 9 k on are lent (`lent-fits`), and they are the first eight of the nine of cell k (`take-take`).
 use lib.Seq.{take-take}
 use native.Mathlib.Omega.{arith}
 use Rattle.ecc.proofs.CellLaws.{lent-fits}

@@ -1,3 +1,4 @@
+-- `number_at` finds eight bytes (`le-leb`), and the eight are all there are (`take-all`).
 use mathlib.Core.Path.{_∙_}
 use lib.Seq.{take-all}
 use native.Mathlib.Omega.{arith}

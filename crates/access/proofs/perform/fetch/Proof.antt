@@ -1,15 +1,13 @@
 -- A clean cell is as it is stored and is not reported; without a cell, and by the syndrome, the laws of `FetchLaws`.
-use Prim.Native.Nat.{_<_}
-use mathlib.Core.Path.{_≡_, refl, sym, ap, _∙_}
-use mathlib.Core.Logic.{_≢_}
-use mathlib.Core.Bool.{true, false}
+use mathlib.Core.Path.{_≡_, sym, _∙_}
+use mathlib.Core.Bool.{false}
 use native.Mathlib.Omega.{arith}
 use Rattle.basics.proofs.RangeLaws.{byCases}
 use Rattle.ecc.specs.Lending.{isLent}
 use Rattle.calls.specs.CodeOutcomes.{kindBy}
 use Rattle.calls.specs.State.{lentState}
-use Rattle.access.specs.CodeAccess.{foundAt, outcomeBy}
-use Rattle.access.proofs.OutcomeLaws.{found-lent, found-syndrome}
+use Rattle.access.specs.CodeAccess.{outcomeBy}
+use Rattle.access.proofs.OutcomeLaws.{settled-outcome, settled-record, found-lent, found-syndrome}
 use Rattle.access.proofs.FetchLaws.{fetched-none, fetched-clean, fetched-by}
 use borrow.Author.Needs.{needs}
 use Rattle.access.proofs.perform.fetch.Statement.{statement}
@@ -42,7 +40,7 @@ returns-2 c =
     let k = start .args .k in
     let out : isLent cells k ≡ false = byCases (isLent cells k) (λ t. absurd (omega (arith, found .found-at .ensures .1 t, c .if2 .taken))) (λ t. t) in
     fetched-none (lentState (start .args .registers .now) cells) k (start .args .address) out _
-    (rw (c .if2 .taken) at (settled .settle .ensures .1))
+    (rw (c .if2 .taken) at (settled-record (settled .settle .ensures)))
 
 doubleword-at-requires-2 : tie.Need-doubleword-at-requires-2
 doubleword-at-requires-2 c κs =
@@ -59,11 +57,11 @@ returns-3 c =
     let cells = start .args .cells .now in
     let k = start .args .k in
     let lent = found-lent cells k (λ e. read .before .if2 .left (found .found-at .ensures .0 ∙ e)) in
-    let outcome = settled .settle .ensures .0 in
+    let outcome = settled-outcome (settled .settle .ensures) in
     rw outcome
     (fetched-by (lentState (start .args .registers .now) cells) k (start .args .address) lent _ _ (found .found-at .result) (read .doubleword-at2 .ensures)
     (found .found-at .ensures .0 ∙ found-syndrome cells k lent) (found .found-at .ensures .1 lent)
-    (rw outcome at (c .with-bit-flipped .ensures)) _ (settled .settle .ensures .1))
+    (rw outcome at (c .with-bit-flipped .ensures)) _ (settled-record (settled .settle .ensures)))
 
 pub fetch-spec : {M : Type 1} → statement M
 fetch-spec = tie.close (tie.spec

@@ -1,6 +1,5 @@
 -- Without a cell there is no bank; a syndrome has its entry in the table.
-use mathlib.Core.Path.{_∙_, sym}
-use borrow.Author.Tests.{eq-eqb, ne-eqb}
+use borrow.Author.Tests.{ne-eqb}
 use Rattle.access.specs.CodeAccess.{outcomeBy}
 use borrow.Author.Needs.{needs}
 use Rattle.access.proofs.perform.outcome_of.Statement.{statement}

@@ -1,9 +1,5 @@
 -- The check byte of the stored bytes, exclusive-or the stored one.
-use mathlib.Core.Path.{ap₂}
-use Prim.Native.Nat.{ℕ}
-use lib.Bits.{bitXor}
-use Rattle.ecc.specs.CheckCode.{checkOf, syndromeOf}
-use Rattle.ecc.specs.Columns.{columns}
+use Rattle.ecc.specs.CheckCode.{syndromeOf}
 use borrow.Author.Needs.{needs}
 use Rattle.access.proofs.perform.syndrome_at.Statement.{statement}
 use Rattle.access.proofs.perform.syndrome_at.Tie as tie

@@ -1,3 +1,4 @@
+-- The loop asks each bank below n (`every-none`, `every-more`); that bank n meets none of them is the negation of `meetsLower` (`clear-is`).
 use Prim.Native.Nat.{_-_, _≤_}
 use mathlib.Core.Path.{_≡_, sym, _∙_}
 use mathlib.Core.Bool.{not, _&&_}

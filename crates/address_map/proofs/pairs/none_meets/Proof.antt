@@ -1,3 +1,4 @@
+-- The loop asks each of the eight banks (`every-none`, `every-more`); all are clear if a search for the lowest that meets finds none (`none-meets`).
 use Prim.Native.Nat.{_-_, _≤_}
 use mathlib.Core.Path.{_≡_, sym, _∙_}
 use mathlib.Core.Bool.{not}

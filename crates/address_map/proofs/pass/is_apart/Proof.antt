@@ -1,3 +1,4 @@
+-- What is known is what the precondition says (`le-leb`); otherwise it is what `none_meets` finds.
 use mathlib.Core.Path.{sym}
 use borrow.Author.Tests.{le-leb}
 use borrow.Author.Needs.{needs}

@@ -3,7 +3,7 @@
 -- not ready.
 use borrow.Author.Needs.{needs}
 use borrow.Author.Tests.{leb-true, leb-false, not-true, not-false}
-use Prim.Native.Nat.{_-_, _^_}
+use Prim.Native.Nat.{_^_}
 use mathlib.Core.Path.{sym, _∙_}
 use native.Mathlib.Omega.{arith}
 use mir.Syntax.{w32}
@@ -14,7 +14,7 @@ use Rattle.banks.specs.Judge.{lowestMeeting}
 use Rattle.address_map.specs.CodeFields.{setupBy}
 use Rattle.address_map.specs.CodeRoute.{routeBy}
 use Rattle.address_map.proofs.EnableLaws.{rest-falls}
-use Rattle.address_map.proofs.PassLaws.{Going, going-start, going-next, going-end, below-eight, power-below, power-fits, base-fits, forward-here, faulty-here}
+use Rattle.address_map.proofs.PassLaws.{Going, going-start, going-next, going-end, same-here, power-below, power-fits, base-fits, forward-here, faulty-here}
 use Rattle.address_map.proofs.PassLaws.{some-enabled, none-enabled, ready-from, unready-off, unready-none, unready-faulty, unready-meeting}
 use Rattle.address_map.proofs.PassLaws.{none-faulty, none-meeting, packs, chosen, declined}
 use Rattle.address_map.proofs.pass.select.Statement.{statement}
@@ -61,20 +61,6 @@ returns-3 c =
     let f = start .args .fields .now in
     declined (setupBy f) (start .args .mb) (unready-faulty (setupBy f) (faulty-here (turn .loop .inv) some (size .bits-unless-faulty .ensures) (c .if3 .taken)))
 
-start-of-requires : tie.Need-start-of-requires Inv-loop μ-loop
-start-of-requires c κs =
-    let test = c .before .before in
-    let turn = test .before in
-    let some = test .loop-test .taken in
-    below-eight (turn .loop .inv) some
-
-last-of-requires : tie.Need-last-of-requires Inv-loop μ-loop
-last-of-requires c κs =
-    let test = c .before .before .before in
-    let turn = test .before in
-    let some = test .loop-test .taken in
-    below-eight (turn .loop .inv) some
-
 is-within-requires : tie.Need-is-within-requires Inv-loop μ-loop
 is-within-requires c κs =
     let starts = c .before in
@@ -83,8 +69,9 @@ is-within-requires c κs =
     let test = size .before in
     let turn = test .before in
     let some = test .loop-test .taken in
+    let same = same-here (turn .loop .inv) some in
     let ordered = forward-here (turn .loop .inv) some (size .bits-unless-faulty .ensures) (sane .if3 .left) in
-    (rw (starts .start-of .ensures .0, c .last-of .ensures .0) ordered, c .last-of .ensures .1)
+    (rw (starts .start-of .ensures .0, c .last-of .ensures .0, same) ordered, c .last-of .ensures .1)
 
 add-power : tie.Need-add-power Inv-loop μ-loop
 add-power c =
@@ -143,9 +130,11 @@ loop-again c =
     let some = test .loop-test .taken in
     let w = gap .wrapping-sub-u32 in
     let v : Fits w32 (w .result) = search needs in
-    let from = starts .start-of .ensures .0 in
-    rw (first .choose .ensures, second .choose2 .ensures, third .choose3 .ensures, within .is-within .ensures, c .power .ensures, from, ends .last-of .ensures .0)
-    (going-next (turn .loop .inv) some (size .bits-unless-faulty .ensures) (sane .if3 .left) (rw (ends .last-of .ensures .0) at (ends .last-of .ensures .1)) (w .result) (v .fits) (rw from at (w .ensures)))
+    let same = same-here (turn .loop .inv) some in
+    let from = rw same at (starts .start-of .ensures .0) in
+    let to = rw same at (ends .last-of .ensures .0) in
+    rw (first .choose .ensures, second .choose2 .ensures, third .choose3 .ensures, within .is-within .ensures, c .power .ensures, from, to)
+    (going-next (turn .loop .inv) some (size .bits-unless-faulty .ensures) (sane .if3 .left) (rw to at (ends .last-of .ensures .1)) (w .result) (v .fits) (rw from at (w .ensures)))
 
 is-apart-requires : tie.Need-is-apart-requires Inv-loop μ-loop
 is-apart-requires c κs =
@@ -198,8 +187,8 @@ select-spec =
     loop-holds
     (λ c κs. search needs)
     returns-3
-    start-of-requires
-    last-of-requires
+    (λ c κs. search needs)
+    (λ c κs. search needs)
     is-within-requires
     (λ c κs. search needs)
     (λ c κs. search needs)

@@ -1,3 +1,4 @@
+-- The leading zeros of 2 x + 1 tell the digits of x (`leading-double`), and there are at most 31 of them (`leading-top`).
 use Prim.Native.Nat.{_+_, _*_, _%_, _^_}
 use mathlib.Core.Path.{_≡_}
 use native.Mathlib.Omega.{arith}

@@ -1,3 +1,4 @@
+-- A one shifted within 32 bits is a power of two, by `one-shl`.
 use native.Mathlib.Omega.{arith}
 use Rattle.basics.proofs.Shifts.{one-shl}
 use borrow.Author.Needs.{needs}

@@ -1,3 +1,4 @@
+-- The greater of the row code and the number of digits of the span is the size in bits, by `size-is`.
 use Prim.Native.Nat.{_%_, _^_}
 use Rattle.address_map.proofs.SizeLaws.{size-is}
 use borrow.Author.Needs.{needs}

@@ -21,14 +21,14 @@ returns-2 c =
     let first = second .before .before .before .before in
     let whole = first .before .before in
     let a = whole .before .before .args in
-    let part = a .part .now in
+    let lent = a .lent .now in
     let nine = a .t2 in
     let k₀ = first .store-four in
     let k₁ = second .store-four2 in
-    let eight = k₁ .ensures ∙ stored-on part (k₀ .last .0) (listFrom nine 0 4) (listFrom nine 4 4) 0 4 (k₀ .ensures) refl in
+    let eight = k₁ .ensures ∙ stored-on lent (k₀ .last .0) (listFrom nine 0 4) (listFrom nine 4 4) 0 4 (k₀ .ensures) refl in
     rw (eq-eqb _ 9 (whole .if1 .left))
-    (stored-on part (k₁ .last .0) (listFrom nine 0 8) (listFrom nine 8 1) 0 8 eight refl
-    ∙ all-stored part (listFrom nine 0 9) (omega arith) ∙ from-all nine 9 (search needs))
+    (stored-on lent (k₁ .last .0) (listFrom nine 0 8) (listFrom nine 8 1) 0 8 eight refl
+    ∙ all-stored lent (listFrom nine 0 9) (omega arith) ∙ from-all nine 9 (search needs))
 
 pub store-nine-spec : {M : Type 1} → statement M
 store-nine-spec =

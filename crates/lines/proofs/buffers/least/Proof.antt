@@ -1,3 +1,4 @@
+-- The two cases of the smaller number: the test holds (`lt-ltb`) or fails (`le-ltb`).
 use borrow.Author.Tests.{lt-ltb, le-ltb}
 use Rattle.lines.proofs.buffers.least.Statement.{statement}
 use Rattle.lines.proofs.buffers.least.Tie as tie

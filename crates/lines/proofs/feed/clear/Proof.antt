@@ -1,3 +1,4 @@
+-- The loop's invariant: zeros up to i, and the bytes from i on as they were (`clear-next`); at the end of the cells none are left (`drop-length`).
 use Prim.Native.Nat.{_-_, _≤_}
 use native.Mathlib.Omega.{arith}
 use mathlib.Core.Path.{_≡_, refl, _∙_}

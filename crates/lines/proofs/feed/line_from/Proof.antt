@@ -1,3 +1,4 @@
+-- From index 0 it is the first line as it is given (`eq-eqb`), and from any other the part of the chunk up to the end (`ne-eqb`).
 use borrow.Author.Tests.{eq-eqb, ne-eqb}
 use borrow.Author.Needs.{needs}
 use Rattle.lines.proofs.feed.line_from.Statement.{statement}

@@ -1,3 +1,5 @@
+-- The loop's invariant is `Before` of StepLaws: `before-first` begins it, `before-next` goes on to the next line, and `lines-reached` is what the
+-- last line leaves. The printed bytes fit (`line-fits`).
 use native.Mathlib.Omega.{arith}
 use Prim.Native.Nat.{_+_, _-_, _<_, _^_}
 use mathlib.Core.Path.{_≡_, refl, _∙_}

@@ -10,7 +10,7 @@ use Rattle.calls.specs.Spans.{byBit}
 use Rattle.machine.proofs.InTurnLaws.{single-parts}
 use Rattle.address_map.specs.CodeRoute.{targetOf}
 use Rattle.address_map.proofs.RouteLaws.{route-leads}
-use Rattle.access.proofs.CallLaws.{flip-early, refused-early, accepted-early, refused-left, carried-left}
+use Rattle.targets.proofs.CallLaws.{flip-early, refused-early, accepted-early, refused-left, carried-left}
 use Rattle.calls.proofs.SpanLaws.{bit-fits}
 use Rattle.memory.proofs.FlipLaws.{flip-target}
 use Rattle.refusals.proofs.ChainLaws.{else-left, else-right}

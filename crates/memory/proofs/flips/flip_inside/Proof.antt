@@ -7,8 +7,8 @@ use borrow.Author.Tests.{not-true, not-false}
 use lib.ListN.{length}
 use Rattle.calls.specs.Calls.{flipIn}
 use Rattle.address_map.specs.CodeRoute.{targetOf}
-use Rattle.access.proofs.LendingLaws.{one-judged, lent-target}
-use Rattle.access.proofs.CarryLaws.{nine-left, one-left}
+use Rattle.targets.proofs.LendingLaws.{one-judged, lent-target}
+use Rattle.targets.proofs.CarryLaws.{nine-left, one-left}
 use Rattle.calls.specs.State.{state}
 use Rattle.memory.proofs.FlipLaws.{flip-does}
 use Rattle.memory.proofs.flips.flip_inside.Statement.{statement}

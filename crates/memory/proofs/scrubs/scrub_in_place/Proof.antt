@@ -10,7 +10,7 @@ use Rattle.calls.specs.Calls.{scrub, scrubIn}
 use Rattle.machine.proofs.InTurnLaws.{single-parts}
 use Rattle.address_map.specs.CodeRoute.{targetOf}
 use Rattle.address_map.proofs.RouteLaws.{route-leads}
-use Rattle.access.proofs.CallLaws.{scrub-early, refused-early, accepted-early, refused-left, carried-left}
+use Rattle.targets.proofs.CallLaws.{scrub-early, refused-early, accepted-early, refused-left, carried-left}
 use Rattle.memory.proofs.scrubs.scrub_in_place.Statement.{statement}
 use Rattle.memory.proofs.scrubs.scrub_in_place.Tie as tie
 

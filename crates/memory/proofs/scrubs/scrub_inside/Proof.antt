@@ -8,8 +8,8 @@ use lib.ListN.{length}
 use Rattle.calls.specs.State.{lentState}
 use Rattle.calls.specs.Calls.{scrubIn}
 use Rattle.address_map.specs.CodeRoute.{targetOf}
-use Rattle.access.proofs.LendingLaws.{one-judged}
-use Rattle.access.proofs.CarryLaws.{nine-left, on-target, one-left}
+use Rattle.targets.proofs.LendingLaws.{one-judged}
+use Rattle.targets.proofs.CarryLaws.{nine-left, on-target, one-left}
 use Rattle.memory.proofs.scrubs.scrub_inside.Statement.{statement}
 use Rattle.memory.proofs.scrubs.scrub_inside.Tie as tie
 

@@ -1,4 +1,4 @@
--- `parser::hex_bytes`: the loop's bytes so far go before those that are left (`bytes-next`), and the bytes behind them are still 0 (`zeros-later`).
+-- `parser::hex_bytes`: the loop's bytes so far go before those that are left (`bytes-next`), and the bytes after them are still 0 (`zeros-later`).
 use Prim.Native.Nat.{_+_, _*_, _-_, _≤_}
 use native.Mathlib.Omega.{arith}
 use mathlib.Core.Path.{_≡_, refl, ap, _∙_}

@@ -1,3 +1,4 @@
+-- The test is that of `decimalDigit`; a figure's value is below 10, and so below 100 (`in-range`, `below-some`), and 100 is below neither.
 use Prim.Native.Nat.{_-_}
 use native.Mathlib.Omega.{arith}
 use mathlib.Core.Path.{sym}

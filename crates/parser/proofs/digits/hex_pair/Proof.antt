@@ -1,3 +1,4 @@
+-- Two digits are below 16 and their value below 256 (`both-below`, `pair-some`); if one of the bytes is no digit, there is no value (`pair-none`).
 use Prim.Native.Nat.{_+_, _*_}
 use native.Mathlib.Omega.{arith}
 use mathlib.Core.Path.{sym, _∙_}

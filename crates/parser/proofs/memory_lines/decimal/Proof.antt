@@ -1,3 +1,4 @@
+-- The number by its length: one digit (`decimal-one`), two of which the first is not 0 (`decimal-two`), and none if it is longer (`decimal-long`).
 use Prim.Native.Nat.{_+_, _*_}
 use native.Mathlib.Omega.{arith}
 use mathlib.Core.Path.{sym, _∙_}

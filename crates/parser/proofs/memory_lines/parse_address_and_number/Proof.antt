@@ -1,3 +1,5 @@
+-- For any call made of the two fields: a short line has no number (`decimal-empty`), one without its comma no second field (`two-unparted`); the
+-- fields of any other are in their places (`two-is`).
 use native.Mathlib.Omega.{arith}
 use mathlib.Core.Path.{sym, _∙_}
 use Rattle.hex_digits.specs.Digits.{decimalField}

@@ -1,3 +1,4 @@
+-- What `parse_address_and_number` says of any call is said of `flip`: the line is malformed, or has an address and a bit.
 use Rattle.calls.specs.Calls.{memory, flip}
 use borrow.Author.Needs.{needs}
 use Rattle.parser.proofs.memory_lines.parse_flip.Statement.{statement}

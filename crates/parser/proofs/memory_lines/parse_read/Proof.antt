@@ -1,3 +1,4 @@
+-- What `parse_address_and_number` says of any call is said of `read`: the line is malformed, or has an address and a count.
 use Rattle.calls.specs.Calls.{memory, read}
 use borrow.Author.Needs.{needs}
 use Rattle.parser.proofs.memory_lines.parse_read.Statement.{statement}

@@ -1,3 +1,4 @@
+-- The address is the only field: a line of another length lacks it (`one-lacks`), and `scrub-is` has its eight digits in any other.
 use native.Mathlib.Omega.{arith}
 use mathlib.Core.Path.{sym, _∙_}
 use Rattle.calls.specs.Calls.{memory, scrub}

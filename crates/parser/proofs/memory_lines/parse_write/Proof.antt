@@ -1,5 +1,5 @@
 -- `parser::parse_write`: a line of the wrong length or without its comma lacks a field (`short-bytes`, `bytes-long`, `odd-bytes`, `two-unparted`); any
--- other asks for what its address and its bytes say (`write-is`), and the answer with zeros behind the bytes is the whole of it (`write-as`).
+-- other asks for what its address and its bytes say (`write-is`), and the answer with zeros after the bytes is the whole of it (`write-as`).
 use native.Mathlib.Omega.{arith}
 use mathlib.Core.Path.{_≡_, sym, ap, _∙_}
 use mathlib.Core.List.{List}

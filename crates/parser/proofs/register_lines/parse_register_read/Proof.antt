@@ -1,3 +1,4 @@
+-- A line of another length lacks its field (`one-lacks`); of any other `register-read-is` has the offset, with a value (`below-some`) or none.
 use native.Mathlib.Omega.{arith}
 use mathlib.Core.Path.{sym, _∙_}
 use Rattle.calls.specs.Calls.{readRegister}

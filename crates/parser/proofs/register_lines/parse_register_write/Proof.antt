@@ -1,3 +1,4 @@
+-- A line of another length or without its comma lacks a field (`two-lacking`, `two-unparted`); `register-write-is` has both fields of any other.
 use native.Mathlib.Omega.{arith}
 use mathlib.Core.Path.{sym, _∙_}
 use lib.ListN.{drop, length-drop}

@@ -1,3 +1,4 @@
+-- The letter, a comma, 0 and an LF, stored in a row, are a text at the start of the output (`start-sets`).
 use native.Mathlib.Omega.{arith}
 use mathlib.Core.List.{[], _∷_}
 use lib.ListN.{length-set}

@@ -1,3 +1,4 @@
+-- The six cases of `kindLetter`.
 use Rattle.print.specs.Output.{kindLetter}
 use borrow.Author.Needs.{needs}
 use Rattle.print.proofs.text.kind_letter.Statement.{statement}

@@ -1,3 +1,4 @@
+-- The kinds follow the letter, a comma and 0 (`sets-append`), and an LF ends the line (`line-sets`); at most 23 bytes come before it.
 use native.Mathlib.Omega.{arith}
 use mathlib.Core.Path.{_≡_, refl, _∙_}
 use mathlib.Core.List.{List, [], _∷_, _++_}

@@ -1,3 +1,5 @@
+-- Each piece is stored where the one before it ends: the kinds (`sets-append`), a comma and the digits of the bytes (`sets-more`), and an LF
+-- (`line-sets`). The digits are two for each byte (`pairs-length`).
 use native.Mathlib.Omega.{arith}
 use mathlib.Core.Path.{_≡_, refl, ap, _∙_}
 use mathlib.Core.List.{List, [], _∷_, _++_}

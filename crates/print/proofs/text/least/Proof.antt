@@ -1,3 +1,4 @@
+-- The smaller of two numbers: the first by `lt-ltb`, the second by `le-ltb`.
 use borrow.Author.Tests.{lt-ltb, le-ltb}
 use Rattle.print.proofs.text.least.Statement.{statement}
 use Rattle.print.proofs.text.least.Tie as tie

@@ -1,3 +1,4 @@
+-- The number in decimal follows the letter and a comma (`sets-append`), and an LF ends the line (`line-sets`): this is `refusedText`.
 use native.Mathlib.Omega.{arith}
 use mathlib.Core.Path.{_≡_, refl, _∙_}
 use mathlib.Core.List.{List, [], _∷_, _++_}

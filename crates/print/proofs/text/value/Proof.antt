@@ -1,3 +1,4 @@
+-- Seven bytes stored in a row are a text at the start of the output (`start-sets`); two of them are the digits of the value.
 use native.Mathlib.Omega.{arith}
 use mathlib.Core.List.{[], _∷_}
 use lib.ListN.{length-set}

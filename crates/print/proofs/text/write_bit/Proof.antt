@@ -1,3 +1,4 @@
+-- The cases of `bitText`: nothing is stored, or a comma and from the next index on the bit, by `write_decimal`.
 use native.Mathlib.Omega.{arith}
 use mathlib.Core.Path.{_≡_, refl, _∙_}
 use Prim.Native.Nat.{suc, _+_}

@@ -1,3 +1,4 @@
+-- Below 10 a number has one digit (`decimal-one`), and otherwise two (`decimal-two`).
 use native.Mathlib.Omega.{arith}
 use mathlib.Core.Path.{_≡_, refl}
 use Prim.Native.Nat.{suc, _+_}

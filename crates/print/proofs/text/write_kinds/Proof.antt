@@ -1,3 +1,5 @@
+-- The loop's invariant is `Written` of PrintLaws, which `part-written` carries on by a part. There are four parts at most (`least-le`), and those
+-- that were counted are all written (`take-least`).
 use Prim.Native.Nat.{_+_, _*_, _-_, _≤_}
 use native.Mathlib.Omega.{arith}
 use mathlib.Core.Path.{_≡_, refl, _∙_}

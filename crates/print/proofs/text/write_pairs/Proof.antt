@@ -1,3 +1,4 @@
+-- The loop's invariant: the digits of the first i bytes are stored. The next byte has two more (`pairs-next`), which follow them (`two-more`).
 use Prim.Native.Nat.{ℕ, _*_, _-_, _≤_}
 use native.Mathlib.Omega.{arith}
 use mathlib.Core.Path.{_≡_, refl, ap, _∙_}

@@ -1,5 +1,5 @@
 -- The tests are those of `kindBy`, the clean case first.
-use borrow.Author.Tests.{lt-ltb, le-ltb, eq-eqb, ne-eqb}
+use borrow.Author.Tests.{lt-ltb, le-ltb, ne-eqb}
 use native.Mathlib.Omega.{arith}
 use Rattle.calls.specs.CodeOutcomes.{kindBy}
 use Rattle.results.proofs.answers.kind_of.Statement.{statement}

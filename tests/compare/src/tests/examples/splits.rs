@@ -117,7 +117,7 @@ fn at_the_ends_of_banks(sides: &mut Sides) -> Result<(), String> {
     Ok(())
 }
 
-/// REF-7: the byte at FFFFFFFF can be reached, and none behind it.
+/// REF-7: the byte at FFFFFFFF can be reached, and none after it.
 fn at_the_last_address(sides: &mut Sides) -> Result<(), String> {
     let write = |address, count| Call::Write {
         address,

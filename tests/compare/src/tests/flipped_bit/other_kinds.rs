@@ -58,7 +58,7 @@ fn full_writes(rng: &mut Rng, setup: &Setup, coverage: &mut Coverage<Met>) -> Re
     Ok(())
 }
 
-/// Nothing is behind the last address that ten bits of megabytes reach.
+/// There is no bank past the last address that ten bits of megabytes reach.
 fn without_bank(rng: &mut Rng, setup: &Setup, coverage: &mut Coverage<Met>) -> Result<(), String> {
     for call in single_calls(rng, 0x4000_0000) {
         setup.gives(&[], call, &[NoBank], coverage)?;

@@ -70,7 +70,7 @@ fn calls(rng: &mut Rng, layout: &Layout) -> Vec<Call> {
     let mut calls = Vec::new();
     for corner in corners(layout) {
         let first = corner & !7;
-        // Behind the last address comes the first.
+        // After the last address comes the first.
         let next = first.wrapping_add(8);
         let both = Call::Read {
             address: first + 5,

@@ -2,7 +2,7 @@
 
 use model::code::FLIP_BITS;
 
-/// LINE-14: the letter of each answer of w, r and s, and the bit behind that of
+/// LINE-14: the letter of each answer of w, r and s, and the bit after that of
 /// a correction. What is read has two digits or more.
 fn answers(line: &[u8]) -> Vec<(&[u8], Option<&[u8]>)> {
     let mut fields = line.split(|&byte| byte == b',').skip(2);

@@ -128,7 +128,7 @@ fn requests_at(rng: &mut Rng, address: u32, count: usize) -> Vec<Request> {
 }
 
 /// Every number of bytes with which lent cells can end in the two cells of a
-/// split or in the one behind them, and every place with every count.
+/// split or in the one after them, and every place with every count.
 pub fn of_what_is_lent(rng: &mut Rng) -> Result<String, String> {
     let mut coverage = Coverage::new();
     for _ in 0..LENT_CASES {

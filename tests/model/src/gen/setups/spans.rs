@@ -42,7 +42,7 @@ pub(super) fn place_bank(rng: &mut Rng, record: &mut Record, n: u8, cell_limit: 
     }
 }
 
-/// Enables banks of row code 3, most of them long, each directly behind the one
+/// Enables banks of row code 3, most of them long, each directly after the one
 /// before. A bank that would pass the last megabyte ends there, so that runs
 /// often reach it.
 pub(super) fn place_run(rng: &mut Rng, record: &mut Record, banks: &[u8], cell_limit: u32) {

@@ -1,0 +1,4 @@
+pub mod LendingLaws
+pub mod CarryLaws
+pub mod CallLaws
+pub mod ByteLaws
