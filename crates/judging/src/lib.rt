@@ -177,8 +177,9 @@ pub fn judge(r: Registers) -> Verdict
 pub fn is_ready(r: Registers) -> bool
     ensures { λ t. ⌜ t ≡ ready (setupOf r) ⌝ }
 {
-    if is_on(r) {
-        return is_accepted(judge(r));
+    let fields = address_map::fields_of(r);
+    if address_map::is_on(&fields) {
+        return is_accepted(verdict(&fields));
     }
     false
 }
