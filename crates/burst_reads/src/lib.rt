@@ -39,33 +39,17 @@ fn read_beats(
     if !are_allowed(cells.len(), to, address) {
         return refuse(Refusal::NotLent);
     }
-    let a = fetch(
-        registers,
-        cells,
-        beat_cell(to, address, 0),
-        beat_address(address, 0),
-    );
+    let k = beat_cell(to, address, 0);
+    let a = fetch(registers, cells, k, beat_address(address, 0));
     let first = kind_of(a.outcome);
-    let b = fetch(
-        registers,
-        cells,
-        beat_cell(to, address, 1),
-        beat_address(address, 1),
-    );
+    let l = beat_cell(to, address, 1);
+    let b = fetch(registers, cells, l, beat_address(address, 1));
     let second = kind_of(b.outcome);
-    let c = fetch(
-        registers,
-        cells,
-        beat_cell(to, address, 2),
-        beat_address(address, 2),
-    );
+    let m = beat_cell(to, address, 2);
+    let c = fetch(registers, cells, m, beat_address(address, 2));
     let third = kind_of(c.outcome);
-    let d = fetch(
-        registers,
-        cells,
-        beat_cell(to, address, 3),
-        beat_address(address, 3),
-    );
+    let n = beat_cell(to, address, 3);
+    let d = fetch(registers, cells, n, beat_address(address, 3));
     let fourth = kind_of(d.outcome);
     copy_line(
         a.doubleword,

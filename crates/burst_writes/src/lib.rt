@@ -40,37 +40,17 @@ fn write_beats(
         return refuse(Refusal::NotLent);
     }
     let a = number_at(bytes, 0);
-    let first = kind_of(write_full(
-        registers,
-        cells,
-        beat_cell(to, address, 0),
-        beat_address(address, 0),
-        a,
-    ));
+    let k = beat_cell(to, address, 0);
+    let first = kind_of(write_full(registers, cells, k, beat_address(address, 0), a));
     let b = number_at(bytes, 8);
-    let second = kind_of(write_full(
-        registers,
-        cells,
-        beat_cell(to, address, 1),
-        beat_address(address, 1),
-        b,
-    ));
+    let l = beat_cell(to, address, 1);
+    let second = kind_of(write_full(registers, cells, l, beat_address(address, 1), b));
     let c = number_at(bytes, 16);
-    let third = kind_of(write_full(
-        registers,
-        cells,
-        beat_cell(to, address, 2),
-        beat_address(address, 2),
-        c,
-    ));
+    let m = beat_cell(to, address, 2);
+    let third = kind_of(write_full(registers, cells, m, beat_address(address, 2), c));
     let d = number_at(bytes, 24);
-    let fourth = kind_of(write_full(
-        registers,
-        cells,
-        beat_cell(to, address, 3),
-        beat_address(address, 3),
-        d,
-    ));
+    let n = beat_cell(to, address, 3);
+    let fourth = kind_of(write_full(registers, cells, n, beat_address(address, 3), d));
     four(first, second, third, fourth)
 }
 

@@ -153,7 +153,7 @@ next-in-range a n t e =
 pub next-exact : (a m : ℕ) → nextDoubleword a < 2 ^ 32 → m ≡ nextDoubleword a % 2 ^ 32 → m ≡ nextDoubleword a
 next-exact a m l e = omega arith
 
--- the route that `admission::route_after` gives leads on
+-- the route that `parts::route_after` gives leads on
 pub after-leads : (r : Registers) (a : ℕ) (to x : Route) → a < 2 ^ 32 → paperRoute to ≡ (notReady (setupOf r) gives selection (setupOf r) (a / 2 ^ 20))
     → paperRoute x ≡ cond (ltb (a / 8 % 2 ^ 17) (2 ^ 17 - 1)) (paperRoute to) (notReady (setupOf r) gives selection (setupOf r) (nextDoubleword a % 2 ^ 32 / 2 ^ 20))
     → Leads x (setupOf r) (nextDoubleword a % 2 ^ 32)
