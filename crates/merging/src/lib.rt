@@ -15,7 +15,7 @@ fn wide(x: u8) -> u64
     x as u64
 }
 
-// The bytes of a write as one number, the first lowest; 0 for more than eight, which no write has (REF-6). Eight need no loop.
+// MEM-4, MEM-5: the bytes of a write as one number, the first lowest; 0 for more than eight, which no write has (REF-6). Eight need no loop.
 pub fn gathered(bytes: &[u8]) -> u64
     ensures { λ x. ⌜ bytesOfNumber x ≡ cond (leb (length (now (bytes .entry))) 8) (now (bytes .entry) ++ replicate (8 - length (now (bytes .entry))) 0) (replicate 8 0) ⌝ }
 {
