@@ -1,5 +1,5 @@
 // One access that looks at its cell: looked up, put right, reported. A clean cell takes one comparison. `settle` is called from two places, here and by
-// a full write without a bank, and is too large to be inlined, so that `fetch` stays small enough to be inlined everywhere (docs/BENCHMARK.md).
+// a full write without a bank, and is too large to be inlined, so that `fetch` stays small enough to be inlined everywhere (D-116).
 ghost use mathlib.Core.Path.{_≡_};
 ghost use mathlib.Core.Bool.{true};
 ghost use Prim.Native.Nat.{_<_};
