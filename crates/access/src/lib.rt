@@ -1,5 +1,7 @@
 // What every memory call does first: what the arguments of a read or a write say, what refuses a call, and one access that looks at its cell. An access
 // is never refused; a number that is no lent cell counts as no bank there, so that every function takes all arguments.
+#![tactic(auto)]
+
 mod admission;
 mod arguments;
 mod cells;

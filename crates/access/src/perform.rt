@@ -20,7 +20,7 @@ const ONES: u64 = 0xffffffffffffffff;
 pub const NO_CELL_FOUND: u32 = 256;
 
 // What an access that looks at its cell comes to, and the doubleword, put right if it could be.
-#[derive(Drop)]
+#[derive(Clone, Copy)]
 pub struct Fetched {
     pub outcome: u8,
     pub doubleword: u64,

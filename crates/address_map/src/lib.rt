@@ -1,4 +1,6 @@
 // From an address to bank, row, column and cell, and the number of cells; and the banks as a record describes them.
+#![tactic(auto)]
+
 ghost use Rattle.std.specs.Prelude.{◌≡◌, ◌/◌, ◌^◌};
 ghost use Rattle.refusals.specs.Paper.{◌gives◌};
 ghost use Rattle.banks.specs.Setup.{setup_of};

@@ -16,7 +16,7 @@ pub(crate) const UNREADY: u64 = 144;
 
 // One number, which is returned in a register: how many bits number the megabytes of the bank's cells in its lowest four bits, the bank in the
 // next four, the bank's first cell in the upper half; with NO_BANK the number of all cells.
-#[derive(Drop)]
+#[derive(Clone, Copy)]
 pub struct Route {
     pub number: u64,
 }

@@ -1,4 +1,6 @@
 // Whether two records place every address alike; one test for each bank decides it.
+#![tactic(auto)]
+
 ghost use Rattle.std.specs.Prelude.{◌≡◌, ◌<◌};
 ghost use Rattle.banks.specs.Setup.{Bounded, setup_of};
 ghost use Rattle.banks.specs.Map.{row_of};
@@ -10,7 +12,7 @@ use refusals::Refusal;
 use registers::Registers;
 
 // What comparing two records returns.
-#[derive(Drop)]
+#[derive(Clone, Copy)]
 pub enum Comparison {
     Refused(Refusal),
     Alike,

@@ -1,4 +1,6 @@
 // The types of the map, and the numbers that they share. Their definitions are in specs/, their laws in proofs/.
+#![tactic(auto)]
+
 use refusals::Refusal;
 
 // The row bits of code 0.
@@ -13,13 +15,13 @@ pub const MEGABYTE_BITS: u32 = 17;
 // How many doublewords a megabyte has.
 pub const MEGABYTE_DOUBLEWORDS: u32 = 131072;
 
-#[derive(Drop)]
+#[derive(Clone, Copy)]
 pub struct Row(pub u32);
 
-#[derive(Drop)]
+#[derive(Clone, Copy)]
 pub struct Column(pub u32);
 
-#[derive(Drop)]
+#[derive(Clone, Copy)]
 pub struct Bank {
     pub enabled: bool,
     pub start: u32,
@@ -29,7 +31,7 @@ pub struct Bank {
 }
 
 // MAP-9: where a doubleword is kept. FORM-4: row and column are tuple structs.
-#[derive(Drop)]
+#[derive(Clone, Copy)]
 pub struct Place {
     pub bank: u8,
     pub row: Row,
@@ -38,7 +40,7 @@ pub struct Place {
 }
 
 // What the map returns.
-#[derive(Drop)]
+#[derive(Clone, Copy)]
 pub enum Mapping {
     Refused(Refusal),
     NoBank,
@@ -46,7 +48,7 @@ pub enum Mapping {
 }
 
 // MAP-7: how many cells the enabled banks have together.
-#[derive(Drop)]
+#[derive(Clone, Copy)]
 pub enum CellCount {
     NotReady,
     Cells(u32),

@@ -1,4 +1,6 @@
 // Burst writes. A cache line lies in one bank; the cell of each beat is found by the route of the line.
+#![tactic(auto)]
+
 ghost use Rattle.std.specs.Prelude.{◌≡◌, [], length};
 ghost use Rattle.ecc.specs.Columns.{columns};
 ghost use Rattle.calls.specs.Calls.{beat_address, beat_bytes, write_in};

@@ -1,4 +1,6 @@
 // Reads lines from standard input and writes an output line for each to standard output.
+#![tactic(auto)]
+
 use libc::{STDERR_FILENO, STDIN_FILENO, STDOUT_FILENO};
 use lines::Kept;
 
@@ -6,7 +8,7 @@ use lines::Kept;
 const CHUNK: usize = 16384;
 
 // What follows a read: another read, the end of the input, or nothing, since a call failed.
-#[derive(Drop)]
+#[derive(Clone, Copy)]
 enum Next {
     Read,
     Finish,
@@ -14,7 +16,7 @@ enum Next {
 }
 
 // What is kept after a read, and what follows it.
-#[derive(Drop)]
+#[derive(Clone, Copy)]
 struct AfterRead {
     next: Next,
     kept: Kept,

@@ -1,4 +1,6 @@
 // The check byte of a doubleword, under the columns of ECC-2.
+#![tactic(auto)]
+
 ghost use Rattle.std.specs.Prelude.{◌≡◌};
 ghost use Rattle.ecc.specs.Columns.{columns};
 ghost use Rattle.ecc.specs.CheckCode.{check_of};

@@ -1,4 +1,6 @@
 // What is stored of a doubleword under the columns of ECC-2, and the doubleword with one of its bits inverted.
+#![tactic(auto)]
+
 ghost use Rattle.std.specs.Prelude.{◌≡◌, cond, ◌^◌, ◌<◌, ltb};
 ghost use Rattle.std.specs.Int.Bits.{bit_xor};
 ghost use Rattle.ecc.specs.Columns.{columns};

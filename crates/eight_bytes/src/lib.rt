@@ -1,4 +1,6 @@
 // Eight bytes as one number, the first lowest.
+#![tactic(auto)]
+
 ghost use Rattle.std.specs.Prelude.{◌≡◌, [], ◌∷◌, ◌+◌, ◌*◌, ◌<◌};
 ghost use Rattle.eight_bytes.specs.CodeNumber.{bytes_in, eight_at, eight_across};
 

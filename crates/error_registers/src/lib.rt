@@ -1,4 +1,6 @@
 // What an answer does to the error registers.
+#![tactic(auto)]
+
 ghost use Rattle.std.specs.Prelude.{◌≡◌, ◌<◌};
 ghost use Rattle.registers.specs.Record.{record_of};
 ghost use Rattle.calls.specs.declared.Kind.TheVariants.{Uncorrectable, NoBank};

@@ -1,4 +1,6 @@
 // Eight hexadecimal digits at once.
+#![tactic(auto)]
+
 ghost use Rattle.std.specs.Prelude.{◌≡◌, ◌^◌};
 ghost use Rattle.eight_bytes.specs.CodeNumber.{bytes_in};
 ghost use Rattle.hex_digits.specs.Digits.{hex_from};

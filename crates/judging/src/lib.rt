@@ -1,4 +1,6 @@
 // ON-2: judging the banks of a record: whether it may be switched on, and whether it is ready.
+#![tactic(auto)]
+
 ghost use Rattle.std.specs.Prelude.{◌≡◌, ◌≤◌, ◌<◌};
 ghost use Rattle.refusals.specs.Paper.{paper, paper_verdict};
 ghost use Rattle.banks.specs.Setup.{setup_of, bank};

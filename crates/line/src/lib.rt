@@ -1,4 +1,6 @@
 // Executes a line. What it prints is written to the start of the lent output, which has room for the longest line.
+#![tactic(auto)]
+
 ghost use Rattle.std.specs.Prelude.{◌≡◌, ℕ, ◌≤◌, List, cond, ltb, length};
 ghost use Rattle.ecc.specs.Columns.{columns};
 ghost use Rattle.calls.specs.Calls.{read, write, flip, scrub, memory, read_register, write_register};

@@ -1,4 +1,6 @@
 // The search for the end of a line, the next LF.
+#![tactic(auto)]
+
 ghost use Rattle.std.specs.Prelude.{◌≡◌, ◌+◌, ◌≤◌, length, take, drop};
 ghost use Rattle.line_ends.specs.LineEnd.{line_length};
 

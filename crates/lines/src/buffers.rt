@@ -10,7 +10,7 @@ use parser::LONGEST_INPUT_LINE;
 pub const MOST_CARRIED: usize = LONGEST_INPUT_LINE + 1;
 
 // The bytes since the last LF, as far as they are kept; after the first `len` they are 0.
-#[derive(Drop)]
+#[derive(Clone, Copy)]
 pub struct Carry {
     pub bytes: [u8; MOST_CARRIED],
     pub len: usize,

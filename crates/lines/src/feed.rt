@@ -17,14 +17,14 @@ use registers::Registers;
 pub const LENT_BYTES: usize = 9 * 7280;
 
 // What is kept between chunks, beside the cells.
-#[derive(Drop)]
+#[derive(Clone, Copy)]
 pub struct Kept {
     pub registers: Registers,
     pub carry: Carry,
 }
 
 // What a chunk leaves, and how many bytes it wrote; nothing changes if the chunk is not taken.
-#[derive(Drop)]
+#[derive(Clone, Copy)]
 pub struct Stepped {
     pub taken: bool,
     pub kept: Kept,
@@ -32,14 +32,14 @@ pub struct Stepped {
 }
 
 // The record at the end of the input, and how many bytes the last line printed.
-#[derive(Drop)]
+#[derive(Clone, Copy)]
 pub struct Executed {
     pub registers: Registers,
     pub printed: usize,
 }
 
 // How far the complete lines of a chunk have been executed: an index into the chunk, and one into the output.
-#[derive(Drop)]
+#[derive(Clone, Copy)]
 pub struct Progress {
     pub from: usize,
     pub at: usize,

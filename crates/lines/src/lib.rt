@@ -1,4 +1,6 @@
 // Executes the lines of the program `busline`, a text that arrives in chunks.
+#![tactic(auto)]
+
 mod buffers;
 mod feed;
 

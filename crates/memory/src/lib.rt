@@ -1,4 +1,6 @@
 // The memory calls over a record and cells that are lent: scrubs and flips, and the names of reads, writes and bursts, which are crates of their own.
+#![tactic(auto)]
+
 mod flips;
 mod scrubs;
 

@@ -1,4 +1,6 @@
 // Memory calls with the record by value, passed in and returned (FORM-1): read, write, flip, scrub, burst read and burst write.
+#![tactic(auto)]
+
 ghost use Rattle.std.specs.Prelude.{◌≡◌, []};
 ghost use Rattle.ecc.specs.Columns.{columns};
 ghost use Rattle.calls.specs.State.{state};
@@ -9,7 +11,7 @@ use calls::Answer;
 use registers::Registers;
 
 // The record after a call, and what the call answered.
-#[derive(Drop)]
+#[derive(Clone, Copy)]
 pub struct Called {
     pub registers: Registers,
     pub answer: Answer,

@@ -1,4 +1,6 @@
 // The bytes of a write as one number, the first lowest, and that number merged into the doubleword that a cell holds.
+#![tactic(auto)]
+
 ghost use Rattle.std.specs.Prelude.{◌≡◌, cond, ◌++◌, ◌-◌, ◌*◌, ◌%◌, ◌^◌, leb, length, take, replicate};
 ghost use Rattle.ecc.specs.Doubleword.{bytes_of_number};
 ghost use Rattle.calls.specs.Calls.{room};

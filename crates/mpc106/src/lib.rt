@@ -1,6 +1,8 @@
 // The library for emulators: each call as a C function over lent bytes and numbers. A call returns 0 if it is accepted, and its refusal if it is
 // not; what an accepted call gives is put in its last parameter. include/mpc106.h declares these functions and, over them, the calls that C
 // programs use. Each name carries the major version of the interface, which the header states, so that a program for another is not linked.
+#![tactic(auto)]
+
 ghost use Rattle.std.specs.Prelude.{◌≡◌, []};
 ghost use Rattle.refusals.specs.Paper.{◌gives◌};
 ghost use Rattle.registers.specs.Record.{fresh, record_of};

@@ -6,7 +6,7 @@ ghost use Rattle.parser.specs.CodeParsed.{bytes_read};
 use crate::digits::hex_pair;
 
 // Up to eight bytes, with zeros after them; `ok` is false if one of them had a bad digit.
-#[derive(Drop)]
+#[derive(Clone, Copy)]
 pub struct Bytes {
     pub ok: bool,
     pub bytes: [u8; 8],

@@ -1,4 +1,6 @@
 // The line format of `busline`: what a line asks for (LINE-2 to LINE-8).
+#![tactic(auto)]
+
 ghost use Rattle.std.specs.Prelude.{◌≡◌, ◌≤◌, length, drop, get_or};
 ghost use Rattle.parser.specs.Format.{fields, by_letter, parse};
 ghost use Rattle.parser.specs.CodeParsed.{parsed_as};

@@ -11,7 +11,7 @@ use crate::digits::{decimal_digit, hex_address};
 use crate::request::{Parsed, Request, malformed};
 
 // An address and a decimal number.
-#[derive(Drop)]
+#[derive(Clone, Copy)]
 pub enum AddressAndNumber {
     Malformed,
     Both(u32, u8),

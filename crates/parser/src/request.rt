@@ -4,7 +4,7 @@ ghost use Rattle.std.proofs.Math.Option.{none};
 ghost use Rattle.parser.specs.CodeParsed.{bare_of, parsed_as};
 
 // The call that a line asks for, or that it asks for none (LINE-11). The bytes of a write stand beside it.
-#[derive(Drop)]
+#[derive(Clone, Copy)]
 pub enum Request {
     Malformed,
     WriteRegister(u8, u8),
@@ -16,7 +16,7 @@ pub enum Request {
 }
 
 // A request with the bytes of a write, which are next to it, since an enum cannot hold an array; after the first `count` they are 0.
-#[derive(Drop)]
+#[derive(Clone, Copy)]
 pub struct Parsed {
     pub request: Request,
     pub bytes: [u8; 8],

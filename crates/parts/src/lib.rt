@@ -1,5 +1,7 @@
 // The accesses of a call that has several: the two of a split and the four of a burst. Where each of them is, and what refuses the call before the
 // first.
+#![tactic(auto)]
+
 ghost use Rattle.std.specs.Prelude.{◌≡◌, cond, ◌&&◌, ◌-◌, ◌/◌, ◌%◌, ◌^◌, ◌<◌, ltb};
 ghost use Rattle.refusals.specs.Paper.{paper_verdict, ◌gives◌};
 ghost use Rattle.registers.specs.Record.{record_of};

@@ -1,5 +1,7 @@
 // What the answers of the calls print: one output line each, written to the start of the lent output. Nothing is written if the output has no
 // room for the longest line, so the functions demand nothing of their caller.
+#![tactic(auto)]
+
 ghost use Rattle.std.specs.Prelude.{◌≡◌, take};
 ghost use Rattle.refusals.specs.Paper.{paper_verdict};
 ghost use Rattle.register_calls.specs.Calls.{paper_register_read};

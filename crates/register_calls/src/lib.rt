@@ -1,4 +1,6 @@
 // Reads and writes of registers.
+#![tactic(auto)]
+
 ghost use Rattle.std.specs.Prelude.{◌≡◌};
 ghost use Rattle.refusals.specs.Paper.{paper_verdict};
 ghost use Rattle.register_calls.specs.Calls.{listed, read_only, bad_value, locked, clearing, read_at, declined, new_byte, write_at, paper_register_read, paper_written};
@@ -8,14 +10,14 @@ use refusals::{Refusal, Verdict};
 use registers::Registers;
 
 // What a register read returns.
-#[derive(Drop)]
+#[derive(Clone, Copy)]
 pub enum RegisterRead {
     Refused(Refusal),
     Value(u8),
 }
 
 // What a register write returns: the record after it, and whether it was accepted.
-#[derive(Drop)]
+#[derive(Clone, Copy)]
 pub struct Written {
     pub registers: Registers,
     pub verdict: Verdict,

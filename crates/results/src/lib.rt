@@ -1,4 +1,6 @@
 // The answer of a memory call, made from the outcomes of its accesses; and what a call returns to a C program and gives it, as numbers.
+#![tactic(auto)]
+
 ghost use Rattle.std.specs.Prelude.{◌≡◌, ◌<◌, get_or, take};
 ghost use Rattle.refusals.specs.Paper.{paper, paper_verdict};
 ghost use Rattle.calls.specs.Answers.{kinds_in, paper_answer};

@@ -1,4 +1,6 @@
 // The accesses that change a cell: full and short writes, scrubs, flips. As in `access`, a number that is no lent cell counts as no bank.
+#![tactic(auto)]
+
 ghost use Rattle.std.specs.Prelude.{◌≡◌, cond, []};
 ghost use Rattle.ecc.specs.Columns.{columns};
 ghost use Rattle.ecc.specs.CheckCode.{flip_bit};

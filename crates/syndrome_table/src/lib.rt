@@ -1,4 +1,6 @@
 // What each syndrome means under the columns of ECC-2, looked up in a constant table.
+#![tactic(auto)]
+
 ghost use Rattle.std.specs.Prelude.{◌≡◌};
 ghost use Rattle.ecc.specs.Columns.{columns};
 ghost use Rattle.ecc.specs.CheckCode.{reading_of};

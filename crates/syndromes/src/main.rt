@@ -1,5 +1,7 @@
 // Prints the tables of docs/SYNDROMES.md: the column of each flip bit (ECC-2, ECC-3), and what each syndrome means (ECC-6), from the table that the
 // library looks it up in. All entries have the same width, so that a line can be followed with a ruler.
+#![tactic(auto)]
+
 use syndrome_table::{CLEAN, UNCORRECTABLE};
 
 fn end_line() {

@@ -1,4 +1,6 @@
 // From bank, row and column back to the address.
+#![tactic(auto)]
+
 ghost use Rattle.std.specs.Prelude.{◌≡◌, true, cond, ◌+◌, ◌*◌, ◌/◌, ◌^◌, ◌≤◌, ◌<◌, ltb};
 ghost use Rattle.banks.specs.Setup.{Bounded, setup_of};
 ghost use Rattle.banks.specs.Map.{most_cells, cells};
@@ -10,7 +12,7 @@ use refusals::Refusal;
 use registers::Registers;
 
 // What the way back returns.
-#[derive(Drop)]
+#[derive(Clone, Copy)]
 pub enum Origin {
     Refused(Refusal),
     Address(u32),

@@ -1,5 +1,7 @@
 // EX-4 to EX-8: prints where the addresses of the worked examples are kept, and how addresses are mapped at the end of
 // a bank whose last megabyte is 255, 256 or 1023 (REG-5), and in a bank with thirteen row bits (REG-13).
+#![tactic(auto)]
+
 use banks::{Column, Mapping, Place, Row};
 use refusals::Refusal;
 use registers::Registers;

@@ -1,1 +1,3 @@
 // The worked examples that are proved of the definitions; no code.
+#![tactic(auto)]
+

@@ -1,5 +1,7 @@
 // Writes, over a record and cells that are lent. A write is judged first, in the order of the refusals; only then are its accesses performed, one after
 // the other, and each is reported before the next.
+#![tactic(auto)]
+
 ghost use Rattle.std.specs.Prelude.{◌≡◌, true, false, [], ◌∷◌, ◌/◌, ◌^◌, ◌≤◌, ◌<◌, length, take, drop};
 ghost use Rattle.refusals.specs.Paper.{◌gives◌};
 ghost use Rattle.registers.specs.Record.{record_of};
