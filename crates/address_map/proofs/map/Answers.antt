@@ -1,0 +1,48 @@
+-- The three answers of the map, by `found`, `no_bank` and `not_ready_lem` of RouteLaws; what holds of the fields holds of the record, by `of_record`.
+use Rattle.std.proofs.Common.{ℕ, ◌<◌, get_or, sym, ◌∙◌, arith, w8, Fits, rules}
+use Rattle.registers.specs.Record.{at}
+use Rattle.banks.specs.Map.{located, mapped}
+use Rattle.address_map.specs.CodeFields.{setup_by}
+use Rattle.address_map.specs.CodeRoute.{route_by, bank_in}
+use Rattle.address_map.proofs.SetupLaws.{of_record}
+use Rattle.address_map.proofs.RouteLaws.{found, no_bank, not_ready_lem, located_found}
+use Rattle.address_map.proofs.map.Goals as goal
+
+pub select-requires : goal.select-requires
+select-requires c =
+    let r = c.args.r in
+    let h : (o : ℕ) → o < 256 → at r o < 256 = λ o l. (let x : Fits w8 (get_or r.bytes o 0) = search rules in x.fits) in
+    (of_record r h c.fields_of-fields.result c.fields_of-fields.ensures).1
+
+pub place_in-requires : goal.place_in-requires
+place_in-requires c =
+    let to = route_by c.select.result in
+    (found to (setup_by c.fields_of-fields.result) c.args.address c.select.ensures.result_value (rw c.bank_of-bank.ensures at c.if-bank-lt-NO_BANK.true)).inside
+
+pub returns-then-bank-lt-NO_BANK : goal.returns-then-bank-lt-NO_BANK
+unfolding mapped
+returns-then-bank-lt-NO_BANK c =
+    let a = c.args in
+    let h : (o : ℕ) → o < 256 → at a.r o < 256 = λ o l. (let x : Fits w8 (get_or a.r.bytes o 0) = search rules in x.fits) in
+    let s = setup_by c.fields_of-fields.result in
+    let to = route_by c.select.result in
+    let l = rw c.bank_of-bank.ensures at c.if-bank-lt-NO_BANK.true in
+    rw (← (of_record a.r h c.fields_of-fields.result c.fields_of-fields.ensures).0, (found to s a.address c.select.ensures.result_value l).on, located_found to s a.address c.select.ensures.result_value l, c.IsPlace-in.ensures)
+
+pub returns-then-bank-eq-NO_BANK : goal.returns-then-bank-eq-NO_BANK
+unfolding mapped located
+returns-then-bank-eq-NO_BANK c =
+    let a = c.args in
+    let h : (o : ℕ) → o < 256 → at a.r o < 256 = λ o l. (let x : Fits w8 (get_or a.r.bytes o 0) = search rules in x.fits) in
+    let to = route_by c.select.result in
+    let z = no_bank to (setup_by c.fields_of-fields.result) a.address c.select.ensures.result_value (sym c.bank_of-bank.ensures ∙ c.if-bank-eq-NO_BANK.true) in
+    rw (← (of_record a.r h c.fields_of-fields.result c.fields_of-fields.ensures).0, z.0, z.1)
+
+pub returns : goal.returns
+unfolding mapped
+returns c =
+    let a = c.args in
+    let h : (o : ℕ) → o < 256 → at a.r o < 256 = λ o l. (let x : Fits w8 (get_or a.r.bytes o 0) = search rules in x.fits) in
+    let to = route_by c.select.result in
+    let above : 8 < bank_in to = omega (arith, c.bank_of-bank.ensures, c.if-bank-lt-NO_BANK.false, c.if-bank-eq-NO_BANK.false) in
+    rw (← (of_record a.r h c.fields_of-fields.result c.fields_of-fields.ensures).0, not_ready_lem to (setup_by c.fields_of-fields.result) a.address c.select.ensures.result_value above)

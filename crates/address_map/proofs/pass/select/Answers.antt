@@ -1,0 +1,107 @@
+-- One pass over the enabled banks selects the bank of a megabyte. The invariant of the loop is `Going` of PassLaws: `going_start` begins it, `going_next`
+-- adds a bank, `going_end` reads what it says when no bank is left. What is returned is `chosen`, or `declined` with the reason why the set-up is
+-- not ready.
+use Rattle.std.proofs.Common.{◌^◌, get_or, sym, ◌∙◌, arith, w32, Fits, rules, leb-false, leb-true}
+use borrow.Author.Tests.{not-true, not-false}
+use Rattle.banks.specs.Setup.{Setup}
+use Rattle.banks.specs.Judge.{lowest_meeting}
+use Rattle.address_map.specs.CodeFields.{setup_by}
+use Rattle.address_map.specs.CodeRoute.{route_by}
+use Rattle.address_map.proofs.EnableLaws.{rest_falls}
+use Rattle.address_map.proofs.PassLaws.{Going, going_start, going_next, going_end, same_here, power_below, power_fits, base_fits, forward_here, faulty_here}
+use Rattle.address_map.proofs.PassLaws.{some_enabled, none_enabled, ready_from, unready_off, unready_none, unready_faulty, unready_meeting}
+use Rattle.address_map.proofs.PassLaws.{none_faulty, none_meeting, packs, chosen, declined}
+use Rattle.address_map.proofs.pass.select.Goals as goal
+
+pub returns-then-not-is_on : goal.returns-then-not-is_on
+returns-then-not-is_on c =
+    let s : Setup = setup_by c.args.fields.now in
+    declined s c.args.mb (unready_off s (sym c.is_on.ensures ∙ not-true c.is_on.result c.if-not-is_on.true-raw))
+
+pub overflow_cast-rest : goal.overflow_cast-rest
+overflow_cast-rest c =
+    record { fits = omega (arith, c.requires) }
+
+pub returns-then-rest-eq0 : goal.returns-then-rest-eq0
+returns-then-rest-eq0 c =
+    let f = c.args.fields.now in
+    declined (setup_by f) c.args.mb (unready_none (setup_by f) (none_enabled f c.requires c.if-rest-eq0.true))
+
+pub loop-rest-init : goal.loop-rest-init
+loop-rest-init c =
+    going_start c.args.fields.now c.requires c.args.mb _ _
+
+pub returns-then-size-eq-FAULTY : goal.returns-then-size-eq-FAULTY
+returns-then-size-eq-FAULTY c =
+    let some = c.loop-rest-test.true in
+    let f = c.args.fields.now in
+    declined (setup_by f) c.args.mb (unready_faulty (setup_by f) (faulty_here c.loop-rest.invariant some c.bits_unless_faulty-size.ensures c.if-size-eq-FAULTY.true))
+
+pub is_within-is_here-requires : goal.is_within-is_here-requires
+is_within-is_here-requires c =
+    let some = c.loop-rest-test.true in
+    let same = same_here c.loop-rest.invariant some in
+    let ordered = forward_here c.loop-rest.invariant some c.bits_unless_faulty-size.ensures c.if-size-eq-FAULTY.false in
+    (rw (c.start_of-start.ensures.value, c.last_of-last.ensures.value, same) ordered, c.last_of-last.ensures.bound)
+
+pub overflow_add-size : goal.overflow_add-size
+overflow_add-size c =
+    let some = c.loop-rest-test.true in
+    record { fits = power_fits c.loop-rest.invariant some c.bits_unless_faulty-size.ensures c.if-size-eq-FAULTY.false }
+
+pub power-base-requires : goal.power-base-requires
+power-base-requires c =
+    let some = c.loop-rest-test.true in
+    power_below c.loop-rest.invariant some c.bits_unless_faulty-size.ensures c.if-size-eq-FAULTY.false
+
+pub overflow_add-base : goal.overflow_add-base
+overflow_add-base c =
+    let some = c.loop-rest-test.true in
+    record { fits = base_fits c.loop-rest.invariant some c.bits_unless_faulty-size.ensures c.if-size-eq-FAULTY.false c.power-base.ensures }
+
+pub overflow_sub-rest : goal.overflow_sub-rest
+overflow_sub-rest c =
+    let some = c.loop-rest-test.true in
+    omega (arith, some)
+
+pub loop-rest-smaller : goal.loop-rest-smaller
+loop-rest-smaller c =
+    let some = c.loop-rest-test.true in
+    rest_falls (get_or c.args.fields.now 16 0) c.loop-rest.rest c.loop-rest.invariant.n c.loop-rest.invariant.left some
+
+pub loop-rest-preserved : goal.loop-rest-preserved
+loop-rest-preserved c =
+    let some = c.loop-rest-test.true in
+    let w = c.wrapping_sub_u32-ascent in
+    let v : Fits w32 w.result = search rules in
+    let same = same_here c.loop-rest.invariant some in
+    let from = rw same at c.start_of-start.ensures.value in
+    let to = rw same at c.last_of-last.ensures.value in
+    rw (c.choose-bank.ensures, c.choose-first.ensures, c.choose-bits.ensures, c.is_within-is_here.ensures, c.power-base.ensures, from, to)
+    (going_next c.loop-rest.invariant some c.bits_unless_faulty-size.ensures c.if-size-eq-FAULTY.false (rw to at c.last_of-last.ensures.bound) w.result v.fits (rw from at w.ensures))
+
+pub is_apart-requires : goal.is_apart-requires
+is_apart-requires c =
+    let end = going_end c.loop-rest.invariant c.loop-rest-test.false in
+    λ t. none_meeting end (leb-true (2 ^ 31) c.loop-rest.ascent t)
+
+pub packed-requires : goal.packed-requires
+packed-requires c =
+    let end = going_end c.loop-rest.invariant c.loop-rest-test.false in
+    packs end
+
+pub returns-then-is_apart : goal.returns-then-is_apart
+returns-then-is_apart c =
+    let f = c.args.fields.now in
+    let s : Setup = setup_by f in
+    let end = going_end c.loop-rest.invariant c.loop-rest-test.false in
+    let clear = leb-true 8 (lowest_meeting s) (sym c.is_apart.ensures ∙ c.if-is_apart.true) in
+    let on = sym c.is_on.ensures ∙ not-false c.is_on.result c.if-not-is_on.false-raw in
+    let ready = ready_from s on (some_enabled f c.requires c.if-rest-eq0.false) (none_faulty end) clear in
+    let packed = c.packed.ensures in
+    chosen end ready (route_by c.packed.result) packed.0 (packed.1 ∙ c.choose.ensures) packed.2
+
+pub returns : goal.returns
+returns c =
+    let s : Setup = setup_by c.args.fields.now in
+    declined s c.args.mb (unready_meeting s (leb-false 8 (lowest_meeting s) (sym c.is_apart.ensures ∙ c.if-is_apart.false)))

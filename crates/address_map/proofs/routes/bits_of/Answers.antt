@@ -1,0 +1,8 @@
+-- The bits of a route are read out of its number as `bits_in` says.
+use Rattle.std.proofs.Common.{refl, arith, rules}
+use Rattle.address_map.specs.CodeRoute.{bits_in}
+use Rattle.address_map.proofs.routes.bits_of.Goals as goal
+
+pub returns : goal.returns
+unfolding bits_in
+returns c = (refl, omega arith)

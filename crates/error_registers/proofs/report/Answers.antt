@@ -1,0 +1,30 @@
+-- The outcome's number is tested in the order in which `kind_by` goes by it; each arm is then the definition's clause for its kind.
+use borrow.Author.Rules.{rules}
+use borrow.Author.Tests.{lt-ltb, le-ltb, ne_eqb}
+use lib.Dec.{eqb}
+use native.Mathlib.Omega.{arith}
+use Rattle.basics.proofs.RangeLaws.{by_cases}
+use Rattle.calls.specs.CodeOutcomes.{kind_by}
+use Rattle.error_registers.specs.Errors.{reported}
+use Rattle.error_registers.proofs.report.Goals as goal
+
+-- clean and stored are left, and neither is reported
+returns-4 : tie.Need-returns-4
+unfolding reported kind_by
+returns-4 c =
+    let n = c.before.before.before.args.outcome in
+    rw (le-ltb n 72 (omega (arith, c.before.before.if1.false)), ne_eqb n 73 c.before.if2.false, ne_eqb n 74 c.if3.false)
+    (by_cases (eqb n 72) (λ t. rw t) (λ t. rw t))
+
+pub returns-then-outcome-lt-CLEAN : goal.returns-then-outcome-lt-CLEAN
+unfolding reported kind_by
+returns-then-outcome-lt-CLEAN c =
+    rw (lt-ltb c.args.outcome 72 c.if-outcome-lt-CLEAN.true) c.count.ensures
+
+pub returns-then-outcome-eq-UNCORRECTABLE : goal.returns-then-outcome-eq-UNCORRECTABLE
+unfolding kind_by
+returns-then-outcome-eq-UNCORRECTABLE c = rw c.if-outcome-eq-UNCORRECTABLE.true c.report_uncorrectable.ensures
+
+pub returns-then-outcome-eq-NO_BANK : goal.returns-then-outcome-eq-NO_BANK
+unfolding kind_by
+returns-then-outcome-eq-NO_BANK c = rw c.if-outcome-eq-NO_BANK.true c.report_no_bank.ensures

@@ -1,0 +1,15 @@
+use Prim.Native.Nat.{◌-◌}
+use mathlib.Core.Path.{refl}
+use native.Mathlib.Omega.{arith}
+use Rattle.basics.proofs.RangeLaws.{Looked, hit, skip, none}
+use Rattle.banks.specs.Setup.{bank}
+use Rattle.banks.specs.Judge.{lowest, faulty}
+use Rattle.address_map.specs.CodeFields.{setup_by}
+use borrow.Author.Rules.{rules}
+use Rattle.judging.proofs.lowest_faulty.Given as goal
+
+abbrev pub invariant-loop-n : goal.invariant-loop-n
+invariant-loop-n l = Looked (λ k. faulty (bank (setup_by l.fields) k)) 8 0 l.n
+
+abbrev pub decreases-loop-n : goal.decreases-loop-n
+decreases-loop-n l = 8 - l.n

@@ -1,0 +1,20 @@
+-- The kinds of the answer are the text of a write (`write_text`), which leaves what its call does (`memory_line`); there is room (`line_printed`).
+use native.Mathlib.Omega.{arith}
+use Rattle.ecc.specs.Columns.{columns}
+use Rattle.registers.specs.Record.{record_of}
+use Rattle.calls.specs.State.{state}
+use mathlib.Core.List.{[]}
+use Rattle.calls.specs.Calls.{write}
+use Rattle.print.proofs.PrintLaws.{write_text}
+use Rattle.line.proofs.LineLaws.{line_printed, memory_line}
+use borrow.Author.Rules.{rules}
+use Rattle.line.proofs.write_line.Goals as goal
+
+pub returns : goal.returns
+returns c =
+    let a = c.args in
+    let m = c.write-called in
+    let p = c.kinds in
+    let st = state m.result.registers m.new.1.0 in
+    line_printed p.result a.out.now p.new.1.1.0 _ st _ (omega arith) p.ensures
+    (memory_line columns (state (record_of a.registers.now) a.cells.now) (write a.address a.bytes.now) m.result.answer st [] [] _ m.ensures (write_text [] m.result.answer a.address a.bytes.now))

@@ -1,0 +1,31 @@
+-- The number has these eight bytes (`eight_some`, `eight_are`), and its lowest mark is that of the first LF (`first_of_eight`). The sum is
+-- below 2^64, because the first of its terms is masked (`and_le_r`).
+use native.Mathlib.Omega.{arith}
+use Prim.Native.Nat.{◌^◌, ◌<◌}
+use mathlib.Core.Path.{◌∙◌}
+use lib.Bits.{bit_xor, and_le_r}
+use lib.Count.{trailing_le}
+use lib.ListN.{take, drop, length-drop}
+use lib.Seq.{length-take-le}
+use Rattle.eight_bytes.proofs.ByteLaws.{eight_some, eight_are}
+use Rattle.line_ends.proofs.LineEndLaws.{marks, first_of_eight}
+use borrow.Author.Rules.{rules}
+use Rattle.line_ends.proofs.before_lf.Goals as goal
+
+pub overflow_add-t : goal.overflow_add-t
+overflow_add-t c =
+    record { fits = omega (arith, and_le_r (bit_xor c.number_at-x.result 0x0A0A0A0A0A0A0A0A) 0x7F7F7F7F7F7F7F7F) }
+
+pub overflow_cast-result : goal.overflow_cast-result
+overflow_cast-result c =
+    record { fits = omega (arith, trailing_le 64 (marks c.number_at-x.result 0x0A0A0A0A0A0A0A0A 0x7F7F7F7F7F7F7F7F 0x8080808080808080)) }
+
+pub returns : goal.returns
+returns c =
+    let a = c.args in
+    let l = a.chunk.now in
+    let eight = take 8 (drop a.at l) in
+    let number = c.number_at-x in
+    let small : number.result < 2 ^ 64 = search rules in
+    let x = eight_are eight number.result small (number.ensures ∙ eight_some l a.at (omega arith)) in
+    rw x.1 (first_of_eight eight (length-take-le 8 (drop a.at l) (omega (arith, length-drop a.at l))) x.0)

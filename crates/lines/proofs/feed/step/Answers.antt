@@ -1,0 +1,88 @@
+-- `lines::step`: a chunk without room is left (`step_refused`), one without an LF is carried (`step_plain`), and of any other the lines are executed
+-- and what is left is carried (`step_lines`). What `joined` gives is what is carried (`carried_is`), and fits its array (`carry_fits`).
+use native.Mathlib.Omega.{arith}
+use mathlib.Core.Path.{◌≡◌, sym, ap, ◌∙◌}
+use mathlib.Core.Bool.{true}
+use mathlib.Core.List.{List}
+use Prim.Native.Nat.{ℕ, ◌-◌, ◌≤◌}
+use lib.ListN.{length, take, drop, length-take, length-drop}
+use lib.Seq.{length-take-le, take_all}
+use Rattle.ecc.specs.Columns.{columns}
+use Rattle.registers.specs.Record.{record_of}
+use Rattle.calls.specs.State.{state}
+use Rattle.line_ends.proofs.LineEndLaws.{end_within}
+use Rattle.lines.specs.declared.buffers.Carry.{Carry}
+use Rattle.lines.specs.CodeStepped.{carried_of, carry_of, LinesReached}
+use Rattle.lines.specs.Text.{most_carried}
+use Rattle.lines.proofs.StepLaws.{carried_is, carry_fits, step_refused, step_plain, step_lines}
+use borrow.Author.Rules.{rules}
+use Rattle.lines.proofs.feed.step.Goals as goal
+
+-- the bytes carried into a chunk are no more than their array
+few : (x : Carry) → length x.bytes ≡ most_carried → length (carried_of x) ≤ most_carried
+few x e = simp length-take (omega arith)
+
+pub returns-then-out-chunk : goal.returns-then-out-chunk
+returns-then-out-chunk c =
+    let a = c.args in
+    step_refused columns a.kept a.cells.now a.chunk.now a.out.now (omega arith)
+
+pub slice_bounds-joined-end : goal.slice_bounds-joined-end
+slice_bounds-joined-end c =
+    let chunk = c.args.chunk.now in
+    sym (length-take-le c.line_end-end.result chunk (end_within chunk 0 c.line_end-end.result (omega arith) c.line_end-end.ensures))
+
+pub returns-then-end-chunk : goal.returns-then-end-chunk
+returns-then-end-chunk c =
+    let size : length c.args.kept.carry.bytes ≡ most_carried =
+    search (rules, c.well-formed) in
+    let a = c.args in
+    ap (λ (x : Carry). (true, 0, (record { registers = a.kept.registers; carry = x }, a.cells.now), a.out.now)) c.joined-first.ensures
+    ∙ step_plain columns a.kept a.cells.now a.chunk.now a.out.now c.line_end-end.result (omega arith) c.line_end-end.ensures (few a.kept.carry size) c.if-end-chunk.true
+
+pub slice_bounds-line-end : goal.slice_bounds-line-end
+slice_bounds-line-end c =
+    let first = c.joined-first in
+    carry_fits first.result _ first.ensures
+
+pub slice_bounds-whole_lines-end : goal.slice_bounds-whole_lines-end
+slice_bounds-whole_lines-end c =
+    let first = c.joined-first in
+    sym (length-take-le first.result.len first.result.bytes (carry_fits first.result _ first.ensures))
+
+pub whole_lines-all-requires : goal.whole_lines-all-requires
+whole_lines-all-requires c =
+    let chunk = c.args.chunk.now in
+    let within = end_within chunk 0 c.line_end-end.result (omega arith) c.line_end-end.ensures in
+    (c.line_end-end.ensures, omega arith, omega arith)
+
+pub slice_bounds-joined-count : goal.slice_bounds-joined-count
+unfolding LinesReached
+slice_bounds-joined-count c =
+    let carried = carried_of c.args.kept.carry in
+    let within = (c.whole_lines-all.ensures.lines_reached carried (carried_is c.joined-first.result _ c.joined-first.ensures)).within in
+    omega arith
+
+pub slice_bounds-joined-start : goal.slice_bounds-joined-start
+unfolding LinesReached
+slice_bounds-joined-start c =
+    let carried = carried_of c.args.kept.carry in
+    let within = (c.whole_lines-all.ensures.lines_reached carried (carried_is c.joined-first.result _ c.joined-first.ensures)).within in
+    omega arith
+
+pub returns : goal.returns
+unfolding LinesReached
+returns c =
+    let size : length c.args.kept.carry.bytes ≡ most_carried =
+    search (rules, c.well-formed) in
+    let a = c.args in
+    let all = c.whole_lines-all in
+    let from = all.result.from in
+    let enough = c.if-out-chunk.false in
+    let reached = all.ensures.0 (carried_of a.kept.carry) (carried_is c.joined-first.result _ c.joined-first.ensures) in
+    let left : take (length a.chunk.now - from) (drop from a.chunk.now) ≡ drop from a.chunk.now =
+    take_all (length a.chunk.now - from) (drop from a.chunk.now) (omega (arith, length-drop from a.chunk.now)) in
+    ap (λ (x : Carry). (true, all.result.at, (record { registers = record_of all.new.0; carry = x }, all.new.1.0), all.new.1.1.1.1.1.0))
+    (c.joined-rest.ensures ∙ ap (λ (l : List ℕ). carry_of (take most_carried l)) left)
+    ∙ step_lines columns a.kept a.cells.now a.chunk.now a.out.now c.line_end-end.result (omega arith) c.line_end-end.ensures (few a.kept.carry size)
+    (state (record_of all.new.0) all.new.1.0) all.new.1.1.1.1.1.0 from all.result.at reached all.ensures.1

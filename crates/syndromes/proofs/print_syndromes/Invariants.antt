@@ -1,0 +1,10 @@
+use Prim.Native.Nat.{◌-◌, ◌≤◌}
+use native.Mathlib.Omega.{arith}
+use borrow.Author.Rules.{rules}
+use Rattle.syndromes.proofs.print_syndromes.Given as goal
+
+abbrev pub invariant-loop-s : goal.invariant-loop-s
+invariant-loop-s l = l.s ≤ 255
+
+abbrev pub decreases-loop-s : goal.decreases-loop-s
+decreases-loop-s l = 255 - l.s
