@@ -41,7 +41,7 @@ def declared():
         if is_own_proof(path):
             continue
         for line in read(path).splitlines():
-            it = re.match(rf"\s*(?:abbrev |unfoldable |pub )*({WORD}) : ", line)
+            it = re.match(rf"\s*(?:abbrev |unfoldable |pub )*({WORD}) :(?: |$)", line)
             if it and not line.lstrip().startswith(("use ", "mod ", "--", "let ", "λ")):
                 names.add(it.group(1))
             it = re.match(rf"\s*\|\s*({WORD})", line)

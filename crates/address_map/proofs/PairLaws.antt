@@ -36,12 +36,12 @@ leb_not : (n f : ℕ) → leb n f ≡ not (ltb f n)
 leb_not n f = by_cases (ltb f n) (λ t. rw (t, lt-leb n f (ltb-true f n t))) (λ t. rw (t, le-leb n f (ltb-false f n t)))
 
 -- ---- pairs of banks
-pub meeting-in :
+pub meeting_in :
     (f : List ℕ) (n m : ℕ) → n < 8 → m < 8
     → (((bank (setup_by f) n).enabled && (bank (setup_by f) m).enabled) && (leb (get_or f m 0) (get_or f (8 + n) 0) && leb (get_or f n 0) (get_or f (8 + m) 0)))
     ≡ ((bank (setup_by f) n).enabled && meets (bank (setup_by f) n) (bank (setup_by f) m))
 unfolding meets bank_by enabled_by
-meeting-in f n m l k =
+meeting_in f n m l k =
     rw (bank_by_lem f n l, bank_by_lem f m k)
     (by_cases (is_set (get_or f 16 0) n)
     (λ t. by_cases (is_set (get_or f 16 0) m) (λ u. rw (t, u)) (λ u. rw (t, u)))

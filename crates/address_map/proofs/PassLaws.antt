@@ -6,7 +6,7 @@ use lib.Count.{count_trailing_zeros}
 use borrow.Author.Tests.{lt-leb}
 use Rattle.basics.specs.Range.{first}
 use Rattle.basics.proofs.Bools.{and_not, and_false, or_left}
-use Rattle.basics.proofs.RangeLaws.{by_cases, contra, first-at, first_before, sum_zero, sum_more}
+use Rattle.basics.proofs.RangeLaws.{by_cases, contra, first_at, first_before, sum_zero, sum_more}
 use Rattle.basics.proofs.Zeros.{is_set}
 use Rattle.refusals.specs.Paper.{given, ◌gives◌}
 use Rattle.banks.specs.Setup.{most_row_bits, most_column_bits, Setup, bank, off_bank}
@@ -149,13 +149,13 @@ module _ (s : Setup) (mb : ℕ) where
           by_cases (bank s j).enabled
           (λ u. rw (u, lt-leb c.start (bank s j).last (above t j q u)) (and_false (leb (bank s j).start c.last)))
           (λ u. rw u)) in
-          let e = first-at (λ j. meets c (bank s j)) n 0 n (omega arith) (omega arith) (λ z. absurd (omega arith)) none in
+          let e = first_at (λ j. meets c (bank s j)) n 0 n (omega arith) (omega arith) (λ z. absurd (omega arith)) none in
           rw (on, e, le-ltb n n (omega arith))
 
-      passed-more :
+      passed_more :
           Passed s mb (n + 1) (cond here n b) (cond here base k) (cond here (megabyte_bits (bank s n)) z)
           (base + cells (bank s n)) (bank s n).last (bit_and ascent gap)
-      passed-more =
+      passed_more =
           record {
             most = omega arith;
             sound = one_more p.sound sane;
@@ -229,7 +229,7 @@ pub none_enabled : (f : List ℕ) → get_or f 16 0 < 256 → get_or f 16 0 ≡ 
 unfolding lowest
 none_enabled f h z =
     let e = get_or f 16 0 in
-    let q = first-at (λ k. is_enabled (bank (setup_by f) k)) 8 0 8 (omega arith) (omega arith) (λ w. absurd (omega arith))
+    let q = first_at (λ k. is_enabled (bank (setup_by f) k)) 8 0 8 (omega arith) (omega arith) (λ w. absurd (omega arith))
     (λ j l k. enabled_at f j k ∙ rest_none e e 0 (rest_whole e h) z j l k) in
     omega (arith, q)
 
@@ -331,7 +331,7 @@ module _ {f : List ℕ} {mb rest b k z base end ascent : ℕ} (g : Going f mb re
             let d = decoded_by f m in
             let here = bank (setup_by f) m in
             let more =
-            passed-more (setup_by f) mb m b k z base end ascent passed_here gap u below_eight enabled_here sane_here.0 (cells_within here d.rows_most d.columns_narrow) (few_bits here d) (rw ends_here small) (rw starts_here q) in
+            passed_more (setup_by f) mb m b k z base end ascent passed_here gap u below_eight enabled_here sane_here.0 (cells_within here d.rows_most d.columns_narrow) (few_bits here d) (rw ends_here small) (rw starts_here q) in
             record {
               n = m + 1;
               left = rest_less (get_or f 16 0) rest g.n g.left some;
@@ -371,7 +371,7 @@ unready_meeting s e = unready s (λ t. absurd (omega (arith, (accepted s t).none
 module _ {s : Setup} {mb b k z base end ascent : ℕ} (p : Passed s mb 8 b k z base end ascent) where
   -- no bank fails the test
   all_pass : (q : ℕ → Bool) → ((j : ℕ) → j < 8 → q j ≡ false) → first q 8 0 ≡ 8
-  all_pass q h = first-at q 8 0 8 (omega arith) (omega arith) (λ w. absurd (omega arith)) (λ j _ m. h j m)
+  all_pass q h = first_at q 8 0 8 (omega arith) (omega arith) (λ w. absurd (omega arith)) (λ j _ m. h j m)
 
   pub none_faulty : 8 ≤ lowest faulty s
   unfolding lowest

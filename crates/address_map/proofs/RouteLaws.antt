@@ -160,12 +160,12 @@ leads_beside to s a b near h =
     }
 
 -- no bank of a record reaches the last megabyte of the addresses, so its route tells the number of all cells
-pub last-counted :
+pub last_counted :
     (r : Registers) → ((o : ℕ) → o < 256 → at r o < 256) → (to : Route)
     → paper_route to ≡ (not_ready (setup_of r) gives selection (setup_of r) 0xFFF)
     → (bank_in to ≡ 8 → first_in to ≡ cell_count (setup_of r))
     → (refuse (ltb 8 (bank_in to)) (5 ∷ []) gives first_in to) ≡ (not_ready (setup_of r) gives cell_count (setup_of r))
-last-counted r bytes to e count =
+last_counted r bytes to e count =
     let s = setup_of r in
     let n = bank_in to in
     let none = none_past s 1024 (λ m _. (bounded r bytes m).last_most) 0xFFF (omega arith) in

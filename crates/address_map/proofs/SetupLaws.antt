@@ -10,19 +10,19 @@ use Rattle.address_map.specs.CodeFields.{fields_of, code_by, enabled_by, bank_by
 
 -- ---- the record's
 module _ (r : Registers) (h : at r 0xF0 < 256) where
-  bank-from :
+  bank_from_lem :
       (n : ℕ)
       → get_or (fields_of r) n 0 ≡ start_of r n
       → get_or (fields_of r) (8 + n) 0 ≡ last_of r n
       → code_by (fields_of r) n ≡ row_code r n
       → get_or (fields_of r) 16 0 ≡ at r 0xA0 → bank_by (fields_of r) n ≡ bank_of r n
   unfolding bank_by enabled_by bank_of enabled_bank enabled_of
-  bank-from n x y z w = simp (x, y, z, w)
+  bank_from_lem n x y z w = simp (x, y, z, w)
 
   setup_by_lem : setup_by (fields_of r) ≡ setup_of r
   unfolding setup_by setup_of fields_of code_by row_code
   setup_by_lem =
-      simp (bank-from 0 refl refl (omega arith) refl, bank-from 1 refl refl (omega arith) refl, bank-from 2 refl refl (omega arith) refl, bank-from 3 refl refl (omega arith) refl, bank-from 4 refl refl (omega arith) refl, bank-from 5 refl refl (omega arith) refl, bank-from 6 refl refl (omega arith) refl, bank-from 7 refl refl (omega arith) refl)
+      simp (bank_from_lem 0 refl refl (omega arith) refl, bank_from_lem 1 refl refl (omega arith) refl, bank_from_lem 2 refl refl (omega arith) refl, bank_from_lem 3 refl refl (omega arith) refl, bank_from_lem 4 refl refl (omega arith) refl, bank_from_lem 5 refl refl (omega arith) refl, bank_from_lem 6 refl refl (omega arith) refl, bank_from_lem 7 refl refl (omega arith) refl)
 
 -- what holds of the numbers of a record whose bytes are below 256
 pub of_record : (r : Registers) → ((o : ℕ) → o < 256 → at r o < 256) → (f : List ℕ) → f ≡ fields_of r → (setup_by f ≡ setup_of r) × (get_or f 16 0 < 256)

@@ -2,7 +2,7 @@
 use Rattle.std.proofs.Common.{◌≡◌, ℕ, zero, suc, ◌+◌, ◌-◌, ◌*◌, ◌/◌, ◌%◌, ◌^◌, ◌<◌, ◌≤◌, false, cond, ◌&&◌, eqb, ltb, leb, List, get_or, sym, refl, ap, ◌∙◌, arith, pow_mono, ltb-false, ltb-true, lt-ltb, ne_eqb, eqb-true, le-leb, leb-false, leb-true}
 use borrow.Author.Tests.{lt-leb}
 use Rattle.basics.proofs.Bools.{and_left, and_right}
-use Rattle.basics.proofs.RangeLaws.{by_cases, contra, first-at}
+use Rattle.basics.proofs.RangeLaws.{by_cases, contra, first_at}
 use Rattle.basics.proofs.Zeros.{greater_from, greater_holds, greater_least}
 use Rattle.banks.specs.declared.Bank.{Bank}
 use Rattle.banks.specs.Setup.{fewest_row_bits, most_row_bits, megabytes, row_bits_of, fits, column_limit, column_bits_of}
@@ -47,7 +47,7 @@ module _ (span code m : ℕ) (from : code ≤ m) (holds : span < 2 ^ m) (least :
     unfolding column_bits_of
     columns_number few room =
         let c = 17 + m - R in
-        let e = first-at (fits R (span + 1)) (column_limit R) 8 c (omega arith) (omega arith)
+        let e = first_at (fits R (span + 1)) (column_limit R) 8 c (omega arith) (omega arith)
         (λ _. fits_from c (omega arith) ∙ le-leb m (R + c - 17) (omega arith))
         (λ j p q. fits_from j p ∙ lt-leb m (R + j - 17) (omega arith)) in
         rw e (omega arith)
@@ -154,14 +154,14 @@ rows_by_bits f n =
     rw r (omega (arith, c, code_below f n)))
 
 -- ---- a span holds a megabyte, by one comparison; w is the megabyte less the start, modulo 2 ^ 32
-pub within-is :
+pub within_is :
     (start last mb w : ℕ)
     → start ≤ last
     → last < 2 ^ 16
     → w < 2 ^ 32
     → mb < 2 ^ 32
     → (w + start) % 2 ^ 32 ≡ mb → leb w (last - start) ≡ (leb start mb && leb mb last)
-within-is start last mb w o l v h d =
+within_is start last mb w o l v h d =
     by_cases (ltb mb start)
     (λ t. let m = ltb-true mb start t in rw (lt-leb start mb m, lt-leb w (last - start) (omega (arith, m))))
     (λ t.

@@ -18,7 +18,7 @@ use Rattle.banks.specs.Map.{holds, bank_at, cells, cell_in_bank, row_of}
 use Rattle.alike.specs.Alike.{alike, compared}
 use Rattle.alike.specs.CodeMegabyte.{same_part, same_megabyte}
 use Rattle.banks.proofs.FieldLaws.{bounded}
-use Rattle.alike.proofs.AlikeLaws.{alike-within}
+use Rattle.alike.proofs.AlikeLaws.{alike_within}
 
 -- bank 0 is the megabyte m alone, with this row code
 abbrev pub one_megabyte : ℕ → ℕ → Registers
@@ -41,14 +41,14 @@ banks_end m code h n l =
     ltb-true (bank (one_megabyte_setup m code) n).last (m + 1) (every_at (λ n. ltb (bank (one_megabyte_setup m code) n).last (m + 1)) 8 h.ends n l)
 
 -- two such records are compared by the megabytes up to m
-compared-to :
+compared_to :
     (m c d : ℕ)
     → m < 4096
     → InBounds m c
     → InBounds m d
     → alike (one_megabyte_setup m c) (one_megabyte_setup m d) ≡ every (same_megabyte (one_megabyte_setup m c) (one_megabyte_setup m d)) (m + 1)
-compared-to m c d l p q =
-    alike-within (one_megabyte_setup m c) (one_megabyte_setup m d) (banks_bounded m c p) (banks_bounded m d q) (m + 1) (omega arith) (banks_end m c p) (banks_end m d q)
+compared_to m c d l p q =
+    alike_within (one_megabyte_setup m c) (one_megabyte_setup m d) (banks_bounded m c p) (banks_bounded m d q) (m + 1) (omega arith) (banks_end m c p) (banks_end m d q)
 
 all_ready : (not_ready (one_megabyte_setup 0 0) ≡ none) × (not_ready (one_megabyte_setup 0 1) ≡ none) × (not_ready (one_megabyte_setup 1 0) ≡ none) × (not_ready (one_megabyte_setup 1 1) ≡ none)
 unfolding first first_of start_of last_of enabled_of row_code megabytes row_bits_of fits column_limit column_bits_of enabled_bank bank_of setup_of lowest inverted too_long faulty meets meets_lower lowest_meeting judged ready not_ready
@@ -57,8 +57,8 @@ all_ready = (refl, refl, refl, refl)
 both_computed : (alike (one_megabyte_setup 0 0) (one_megabyte_setup 0 1) ≡ true) × (alike (one_megabyte_setup 1 0) (one_megabyte_setup 1 1) ≡ false)
 unfolding every first first_of start_of last_of enabled_of row_code megabytes row_bits_of fits column_limit column_bits_of enabled_bank bank_of setup_of lowest holds bank_at cells cell_in_bank row_of same_part same_megabyte
 both_computed = (
-  compared-to 0 0 1 (omega arith) (record { bytes = refl; ends = refl }) (record { bytes = refl; ends = refl }),
-  compared-to 1 0 1 (omega arith) (record { bytes = refl; ends = refl }) (record { bytes = refl; ends = refl }),
+  compared_to 0 0 1 (omega arith) (record { bytes = refl; ends = refl }) (record { bytes = refl; ends = refl }),
+  compared_to 1 0 1 (omega arith) (record { bytes = refl; ends = refl }) (record { bytes = refl; ends = refl }),
 )
 
 pub even_alike : compared (one_megabyte_setup 0 0) (one_megabyte_setup 0 1) ≡ given true

@@ -110,23 +110,23 @@ module _ (s t : Setup) (x : (n : ℕ) → Bounded (bank s n)) (y : (n : ℕ) →
       (λ k. place_part b c (x n) (y n) m (λ u l. both_right e (ltb n 8) (p u) (g u l) k))
 
   -- from the end of all banks on every megabyte is the same
-  same-past :
+  same_past :
       (e : ℕ)
       → ((n : ℕ) → n < 8 → (bank s n).last < e)
       → ((n : ℕ) → n < 8 → (bank t n).last < e)
       → (m : ℕ) → e ≤ m → same_megabyte s t m ≡ true
   unfolding same_megabyte
-  same-past e g h m l = simp (none_past s e g m l, none_past t e h m l)
+  same_past e g h m l = simp (none_past s e g m l, none_past t e h m l)
 
   -- so the megabytes below e decide, if all banks end before it
-  pub alike-within :
+  pub alike_within :
       (e : ℕ)
       → e ≤ 4096
       → ((n : ℕ) → n < 8 → (bank s n).last < e)
       → ((n : ℕ) → n < 8 → (bank t n).last < e)
       → alike s t ≡ every (same_megabyte s t) e
   unfolding alike
-  alike-within e o f g =
+  alike_within e o f g =
       equal_tests (every (same_at s t) (2 ^ 32)) (every (same_megabyte s t) e)
       (λ h.
       every_all (same_megabyte s t) e
@@ -136,8 +136,8 @@ module _ (s t : Setup) (x : (n : ℕ) → Bounded (bank s n)) (y : (n : ℕ) →
       (λ a l.
       let m = a / 2 ^ 20 in
       megabyte_at a
-      (by_cases (ltb m e) (λ u. every_at (same_megabyte s t) e h m (ltb-true m e u)) (λ u. same-past e f g m (ltb-false m e u)))))
+      (by_cases (ltb m e) (λ u. every_at (same_megabyte s t) e h m (ltb-true m e u)) (λ u. same_past e f g m (ltb-false m e u)))))
 
   -- 1,024 megabytes are enough for any two
   pub alike_every : alike s t ≡ every (same_megabyte s t) 1024
-  alike_every = alike-within 1024 (omega arith) (λ n l. (x n).last_most) (λ n l. (y n).last_most)
+  alike_every = alike_within 1024 (omega arith) (λ n l. (x n).last_most) (λ n l. (y n).last_most)

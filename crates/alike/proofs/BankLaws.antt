@@ -31,7 +31,7 @@ use Rattle.alike.proofs.AlikeLaws.{both, both_right, equal_tests, alike_every}
 
 -- ---- remainders of numbers in a row
 -- between two numbers whose remainders are small, and that are close, every remainder is small
-small-between :
+small_between :
     (p k x y m : ℕ)
     → 2 * p ≤ 2 ^ k
     → x % 2 ^ k < p
@@ -40,7 +40,7 @@ small-between :
     → m ≤ y
     → y < x + p
     → m % 2 ^ k < p
-small-between p k x y m d hx hy l u w =
+small_between p k x y m d hx hy l u w =
     let q = 2 ^ k in
     let lo = shr_mono k l in
     let hi = shr_mono k u in
@@ -55,7 +55,7 @@ small-between p k x y m d hx hy l u w =
     omega (arith, div-add-mod' m q, div-add-mod' y q))
 
 -- remainders by two powers of two that are the same at both ends of a short span are the same within
-same-less :
+same_less :
     (i k x y m : ℕ)
     → i < k
     → x % 2 ^ i ≡ x % 2 ^ k
@@ -64,15 +64,15 @@ same-less :
     → m ≤ y
     → y < x + 2 ^ i
     → m % 2 ^ i ≡ m % 2 ^ k
-same-less i k x y m l ex ey h u w =
+same_less i k x y m l ex ey h u w =
     let p = 2 ^ i in
     let d : 2 * p ≤ 2 ^ k = omega (arith, pow_mono {i = i + 1} {j = k} (omega arith), pow-add 2 i 1) in
-    let s = small-between p k x y m d (rw (← ex) (mod-lt x (pow_pos i))) (rw (← ey) (mod-lt y (pow_pos i))) h u w in
+    let s = small_between p k x y m d (rw (← ex) (mod-lt x (pow_pos i))) (rw (← ey) (mod-lt y (pow_pos i))) h u w in
     let e : k ≡ (k - i) + i = omega arith in
     let z : m % 2 ^ k % p ≡ m % p = ap (λ (c : ℕ). m % 2 ^ c % p) e ∙ mod-mod-pow m (k - i) i in
     sym z ∙ mod-eq_of_lt s
 
-same-within :
+same_within :
     (i k x y m : ℕ)
     → x % 2 ^ i ≡ x % 2 ^ k
     → y % 2 ^ i ≡ y % 2 ^ k
@@ -81,10 +81,10 @@ same-within :
     → y < x + 2 ^ i
     → y < x + 2 ^ k
     → m % 2 ^ i ≡ m % 2 ^ k
-same-within i k x y m ex ey h u w v =
-    by_cases (ltb i k) (λ t. same-less i k x y m (ltb-true i k t) ex ey h u w)
+same_within i k x y m ex ey h u w v =
+    by_cases (ltb i k) (λ t. same_less i k x y m (ltb-true i k t) ex ey h u w)
     (λ t.
-    by_cases (ltb k i) (λ o. sym (same-less k i x y m (ltb-true k i o) (sym ex) (sym ey) h u v))
+    by_cases (ltb k i) (λ o. sym (same_less k i x y m (ltb-true k i o) (sym ex) (sym ey) h u v))
     (λ o. let e : i ≡ k = omega (arith, ltb-false i k t, ltb-false k i o) in rw e))
 
 -- ---- a bank in both set-ups
@@ -122,14 +122,14 @@ unfolding same_bank
 same_is b c x y g = simp (x, y, eq-eqb b.start c.start g.start, eq-eqb b.last c.last g.last, g.at_start_lem, g.at_last)
 
 -- the test of two enabled banks, by its parts
-pub both-on :
+pub both_on :
     (b c : Bank) (u v : Bool)
     → u ≡ same_part b.start b c
     → v ≡ same_part b.last b c
     → (b.enabled && c.enabled) ≡ true
     → (eqb b.start c.start && (eqb b.last c.last && (u && v))) ≡ same_bank b c
 unfolding same_bank
-both-on b c u v p q t = rw (p, q, t)
+both_on b c u v p q t = rw (p, q, t)
 
 same_enabled : (b c : Bank) → same_bank b c ≡ true → b.enabled ≡ c.enabled
 unfolding same_bank
@@ -157,7 +157,7 @@ same_part_lem b c d e f g h m l u =
     let q = part b.last b c h.at_last in
     let w : b.last < b.start + reach b = omega (arith, f.roomy, reach_cells b (bounded_large b d)) in
     let v : b.last < b.start + reach c = omega (arith, g.roomy, reach_cells c (bounded_large c e), h.start, h.last) in
-    let r = same-within (b.row_bits + b.column_bits - 17) (c.row_bits + c.column_bits - 17) b.start b.last m
+    let r = same_within (b.row_bits + b.column_bits - 17) (c.row_bits + c.column_bits - 17) b.start b.last m
     (row_reach b c d e b.start p) (row_reach b c d e b.last q) l u w v in
     part_same m b c (reach_row b c d e m p.columns r)
 
@@ -254,9 +254,9 @@ pub every_stops : (p : ℕ → Bool) (e n : ℕ) → n < e → p n ≡ false →
 every_stops p e n l t = by_cases (every p e) (λ h. contra (every_at p e h n l) t) (λ h. h)
 
 module _ (r u : Registers) (p : (o : ℕ) → o < 256 → at r o < 256) (q : (o : ℕ) → o < 256 → at u o < 256) where
-  pub records-alike :
+  pub records_alike :
       ready (setup_of r) ≡ true
       → ready (setup_of u) ≡ true
       → compared (setup_of r) (setup_of u) ≡ given (every (λ n. same_bank (bank (setup_of r) n) (bank (setup_of u) n)) 8)
   unfolding compared not_ready
-  records-alike h k = rw (h, k, alike_banks (setup_of r) (setup_of u) (bounded r p) (bounded u q) (decoded r) (decoded u) h k)
+  records_alike h k = rw (h, k, alike_banks (setup_of r) (setup_of u) (bounded r p) (bounded u q) (decoded r) (decoded u) h k)

@@ -93,9 +93,9 @@ pub count_most : (r : Registers) → ((o : ℕ) → o < 256 → at r o < 256) �
 count_most r bytes h = cells_of_all (setup_of r) (decoded r) (λ n. (bounded r bytes n).last_most) h
 
 -- and the numbers of its cells are below that
-pub number-most :
+pub number_most :
     (r : Registers)
     → ((o : ℕ) → o < 256 → at r o < 256)
     → ready (setup_of r) ≡ true
     → (a k : ℕ) → cell_of (setup_of r) a ≡ some k → k < 15 * 2 ^ 24
-number-most r bytes h a k e = omega (arith, (map_laws r h).within a k e, count_most r bytes h)
+number_most r bytes h a k e = omega (arith, (map_laws r h).within a k e, count_most r bytes h)

@@ -75,20 +75,20 @@ lent_enough n h cs t e = run_zeros columns bank_on cs n enough h t ∙ e
 -- ---- the conditions
 
 -- two flips of a doubleword with no accepted write or scrub of it between
-pub spacing-needed :
+pub spacing_needed :
     ((r : Registers) → SwitchedOn r → (lent : ℕ) → 9 * cell_count (setup_of r) ≤ lent → (cs : List Call) → All AtErrorRegisters cs
     → SameAnswers (state r (replicate lent 0)) cs)
     → ⊥
-spacing-needed claim =
+spacing_needed claim =
     differ (lent_enough 36 (omega arith) flipped_twice computed.twice_reached computed.twice_cells) computed.twice_flat
     (claim bank_on switched_on enough on_enough flipped_twice (tt, (tt, (tt, (tt, (tt, (tt, (tt, (tt, (tt, (tt, (tt, tt)))))))))))) (λ z. let k = kind_at 10 z in never (cc))
 
 -- a register call elsewhere: memory is switched off, and the flat machine has no refusal 5
-pub error-registers-needed :
+pub error_registers_needed :
     ((r : Registers) → SwitchedOn r → (lent : ℕ) → 9 * cell_count (setup_of r) ≤ lent → (cs : List Call) → Spaced (spans_of (setup_of r)) cs
     → SameAnswers (state r (replicate lent 0)) cs)
     → ⊥
-error-registers-needed claim =
+error_registers_needed claim =
     differ (computed.off_cells (replicate enough 0)) computed.off_flat
     (claim bank_on switched_on enough on_enough switched_off (spaced spans switched_off computed.off_spaced)) (λ z. never (cc))
 
@@ -97,32 +97,32 @@ behind_enough : (cell : List ℕ) (lent : ℕ) → enough ≤ lent → 9 * cell_
 behind_enough cell lent h = rw (bytes_on, length-append, length-replicate) (omega arith)
 
 -- a cell that is not zero at first
-pub zero-cells-needed :
+pub zero_cells_needed :
     ((r : Registers) → SwitchedOn r → (cells : List ℕ) → 9 * cell_count (setup_of r) ≤ length cells → (cs : List Call) → All AtErrorRegisters cs
     → Spaced (spans_of (setup_of r)) cs → SameAnswers (state r cells) cs)
     → ⊥
-zero-cells-needed claim =
+zero_cells_needed claim =
     let more : List ℕ = replicate enough 0 in
     differ (run_first columns bank_on read_once other_cell more computed.once_other_reached ∙ computed.once_other) computed.once_flat
     (claim bank_on switched_on (other_cell ++ more) (behind_enough other_cell enough (omega arith)) read_once (tt, tt) (spaced spans read_once computed.once_spaced))
     (λ z. let k = bytes_at 0 z in never (cc))
 
 -- a record that was not switched on
-pub switching-on-needed :
+pub switching_on_needed :
     ((r : Registers) → (lent : ℕ) → 9 * cell_count (setup_of r) ≤ lent → (cs : List Call) → All AtErrorRegisters cs → Spaced (spans_of (setup_of r)) cs
     → SameAnswers (state r (replicate lent 0)) cs)
     → ⊥
-switching-on-needed claim =
+switching_on_needed claim =
     differ (computed.once_off_cells (replicate enough 0)) computed.once_off_flat
     (claim bank_off enough (rw bytes_off (omega arith)) read_once (tt, tt) (spaced (spans_of (setup_of bank_off)) read_once computed.once_off_spaced))
     (λ z. never (cc))
 
 -- a cell that is not lent
-pub lent-cells-needed :
+pub lent_cells_needed :
     ((r : Registers) → SwitchedOn r → (lent : ℕ) → (cs : List Call) → All AtErrorRegisters cs → Spaced (spans_of (setup_of r)) cs
     → SameAnswers (state r (replicate lent 0)) cs)
     → ⊥
-lent-cells-needed claim =
+lent_cells_needed claim =
     differ computed.once_unlent computed.once_flat
     (claim bank_on switched_on 0 read_once (tt, tt) (spaced spans read_once computed.once_spaced)) (λ z. never (cc))
 

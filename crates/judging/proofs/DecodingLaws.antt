@@ -8,7 +8,7 @@ use lib.Dec.{ltb}
 use lib.ListN.{get_or}
 use lib.Pow.{pow_mono}
 use borrow.Author.Tests.{ltb-true, leb-false, le-leb, lt-leb, lt-ltb, not-true}
-use Rattle.basics.proofs.RangeLaws.{by_cases, first-at}
+use Rattle.basics.proofs.RangeLaws.{by_cases, first_at}
 use Rattle.banks.specs.Setup.{fewest_row_bits, megabytes, row_bits_of, fits, column_limit, column_bits_of}
 use Rattle.banks.specs.Judge.{inverted, too_long, faulty}
 use Rattle.banks.proofs.FieldLaws.{limit_between, rows_by_code, fits_in}
@@ -34,7 +34,7 @@ columns_too_long R L h no_room =
     let m = column_limit R in
     let least = (limit_between R (omega arith)).0 in
     let long = leb-false L (2 ^ (R + m - 17)) (sym (fits_in R L m (omega (arith, least))) ∙ no_room) in
-    first-at (fits R L) m 8 m least (omega arith) (λ z. absurd (omega arith))
+    first_at (fits R L) m 8 m least (omega arith) (λ z. absurd (omega arith))
     (λ j from to.
     let p : 2 ^ (R + j - 17) ≤ 2 ^ (R + m - 17) = pow_mono {j = R + m - 17} (omega arith) in
     fits_in R L j (omega arith) ∙ lt-leb L (2 ^ (R + j - 17)) (omega (arith, p, long)))
@@ -43,7 +43,7 @@ columns_too_long R L h no_room =
 columns_none : (R : ℕ) → fewest_row_bits ≤ R → column_bits_of R 0 ≡ 8
 unfolding column_bits_of
 columns_none R h =
-    first-at (fits R 0) (column_limit R) 8 8 (omega arith) (limit_between R (omega arith)).0
+    first_at (fits R 0) (column_limit R) 8 8 (omega arith) (limit_between R (omega arith)).0
     (λ _. fits_in R 0 8 (omega arith) ∙ le-leb 0 (2 ^ (R + 8 - 17)) (omega arith)) (λ j from to. absurd (omega arith))
 
 -- as the code computes them
@@ -55,12 +55,12 @@ most_is (suc (suc zero)) h = refl
 most_is (suc (suc (suc zero))) h = refl
 most_is (suc (suc (suc (suc k)))) h = absurd (omega arith)
 
-pub faulty-bits :
+pub faulty_bits :
     (f : List ℕ) (n : ℕ)
     → faulty (enabled_by f n) ≡ true
     → cond (ltb (get_or f (8 + n) 0) (get_or f n 0)) (code_by f n) (2 * code_by f n + 1 + code_by f n / 3) ≡ megabyte_bits (enabled_by f n)
 unfolding faulty inverted too_long megabyte_bits enabled_by megabytes
-faulty-bits f n bad =
+faulty_bits f n bad =
     let start = get_or f n 0 in
     let last = get_or f (8 + n) 0 in
     let code = code_by f n in
@@ -88,8 +88,8 @@ faulty_known f n =
     by_cases (faulty (enabled_by f n)) (λ t _. t) (λ t. rw t (λ l. absurd (omega (arith, l, few_bits (enabled_by f n) (decoded_enabled f n)))))
 
 -- an enabled bank is made of its fields
-pub bank-parts :
+pub bank_parts :
     (f : List ℕ) (n : ℕ)
     → record { enabled = true; start = get_or f n 0; last = get_or f (8 + n) 0; row_bits = (enabled_by f n).row_bits; column_bits = (enabled_by f n).column_bits } ≡ enabled_by f n
 unfolding enabled_by
-bank-parts f n = refl
+bank_parts f n = refl

@@ -12,11 +12,11 @@ use Rattle.calls.specs.Answers.{Effect, kinds_in, unless_refused, paper_answer, 
 use Rattle.results.specs.Results.{answer_numbers, result_of, result_of_verdict, returned}
 use Rattle.mpc106.specs.MemoryResults.{memory_result, result_of_call, flip_result}
 
-pub result-of :
+pub result_of_lem :
     {n : ℕ} {st : State} {buffer after : List ℕ} {e : Effect} (before : List ℕ) (x : Answer) →
     leaves x st buffer ≡ e → (n, after) ≡ returned answer_numbers (paper_answer x) before →
     memory_result n st buffer after ≡ result_of_call e before
-result-of {st = st} {buffer = buffer} before x h k =
+result_of_lem {st = st} {buffer = buffer} before x h k =
     ap (λ (r : ℕ × List ℕ). memory_result r.0 st buffer r.1) k ∙ ap (λ (e : Effect). result_of_call e before) h
 
 -- a flip gives no more than its acceptance

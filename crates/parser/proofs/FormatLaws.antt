@@ -97,5 +97,5 @@ one_lacks l k n h e =
 
 pub parse_short : (line : List ℕ) → length line < 2 → parse line ≡ none
 parse_short line h =
-    let none-there : get_or line 1 0 ≡ 0 = get_or-eq_default line 0 {n = 1} (omega arith) in
+    let none_there : get_or line 1 0 ≡ 0 = get_or-eq_default line 0 {n = 1} (omega arith) in
     parse_unparted line (λ e. omega arith)

@@ -70,20 +70,20 @@ pub record Absent (s : Setup) (n : ℕ) (row : Row) (column : Column) : Type 0 w
 
 module _ (b : Bank) (row : Row) (column : Column) where
   -- no doubleword of the span has them
-  none-there :
+  none_there :
       address_at b row column ≡ refused (17 ∷ [])
       → (d : ℕ) → b.start * 2 ^ 17 ≤ d → d < span_end b → is_at b row column d ≡ false
   unfolding address_at doubleword_at
-  none-there h d l k =
+  none_there h d l k =
       let f = first (is_at b row column) (span_end b) (b.start * 2 ^ 17) in
       by_cases (ltb f (span_end b)) (λ t. let e : given (8 * f) ≡ refused (17 ∷ []) = rw t at h in never (cc))
       (λ t. first_before (is_at b row column) (span_end b) (b.start * 2 ^ 17) d l (omega (arith, ltb-false f (span_end b) t)))
 
-  there-none :
+  there_none :
       ((d : ℕ) → b.start * 2 ^ 17 ≤ d → d < span_end b → is_at b row column d ≡ false)
       → address_at b row column ≡ refused (17 ∷ [])
   unfolding address_at doubleword_at
-  there-none g =
+  there_none g =
       let s = b.start * 2 ^ 17 in
       let f = first (is_at b row column) (span_end b) s in
       by_cases (ltb f (span_end b))
@@ -96,7 +96,7 @@ module _ (s : Setup) (n : ℕ) (row : Row) (column : Column) where
   pub back_absent : back s n row column ≡ refused (17 ∷ []) → Absent s n row column
   back_absent h =
       let q = asked s n row column (ap late h) in
-      record { rightly = q; nowhere = none-there (bank s n) row column (sym (back_asked s n row column q) ∙ h) }
+      record { rightly = q; nowhere = none_there (bank s n) row column (sym (back_asked s n row column q) ∙ h) }
 
   pub absent_back : Absent s n row column → back s n row column ≡ refused (17 ∷ [])
-  absent_back g = back_asked s n row column g.rightly ∙ there-none (bank s n) row column g.nowhere
+  absent_back g = back_asked s n row column g.rightly ∙ there_none (bank s n) row column g.nowhere

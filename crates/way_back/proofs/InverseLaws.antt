@@ -28,7 +28,7 @@ use Rattle.banks.proofs.SpanLaws.{Held, held_holds, bank_held}
 use Rattle.banks.proofs.AcceptedLaws.{Fitting, fitting}
 use Rattle.banks.proofs.CellLaws.{bank_selected, cell_in_bank_most}
 use Rattle.banks.proofs.MapLaws.{located_at}
-use Rattle.way_back.proofs.WayBackLaws.{cell_in_bank_at, doubleword_for, in_range_lem, next_doubleword_lem, address-at, address_given_lem}
+use Rattle.way_back.proofs.WayBackLaws.{cell_in_bank_at, doubleword_for, in_range_lem, next_doubleword_lem, address_at_lem, address_given_lem}
 use Rattle.way_back.proofs.AbsentLaws.{Asked, asked_given, back_asked}
 
 -- ---- an address of a bank
@@ -76,7 +76,7 @@ found :
     → address_at b row column ≡ given x → Found b row column x
 found b row column x r h =
     let w = doubleword_for b (cell_in_bank_at b row column) in
-    let e = sym (address-at b row column r) ∙ h in
+    let e = sym (address_at_lem b row column r) ∙ h in
     by_cases (ltb w (span_end b))
     (λ t. let g : given (8 * w) ≡ given x = rw t at e in record { inside = ltb-true w (span_end b) t; address = cc })
     (λ t. let g : refused (17 ∷ []) ≡ given x = rw t at e in never (cc))
@@ -120,24 +120,24 @@ back_from s d h a p e =
     let k : Asked s n (row_of b a) (column_of b a) = record { on = h; bank_below = q.bank_below; enabled = g.on; range = own_range b a } in
     rw q.place (back_asked s n (row_of b a) (column_of b a) k ∙ own_address b a (fitting s h n (d n) q.bank_below g.on) g)
 
-pub back-of-map :
+pub back_of_map :
     (r : Registers)
     → ready (setup_of r) ≡ true
     → (a : ℕ) (p : Place)
     → located (setup_of r) a ≡ some p
     → back (setup_of r) p.bank p.row p.column ≡ given (a / 8 * 8)
-back-of-map r = back_from (setup_of r) (decoded r)
+back_of_map r = back_from (setup_of r) (decoded r)
 
 -- the way back, then the map: the bank, the row and the column
 abbrev pub place_at : Setup → ℕ → Row → Column → Place
 place_at s n row column = record { bank = n; row = row; column = column; cell = cells_below s n + cell_in_bank_at (bank s n) row column }
 
-pub map-of-back :
+pub map_of_back :
     (s : Setup) (n : ℕ) (row : Row) (column : Column) (x : ℕ)
     → back s n row column ≡ given x
     → located s x ≡ some (place_at s n row column)
 unfolding located in_span place_of
-map-of-back s n row column x h =
+map_of_back s n row column x h =
     let b = bank s n in
     let q = asked_given s n row column x h in
     let r = q.range in

@@ -102,18 +102,18 @@ module _ (b : Bank) (row : Row) (column : Column) (h : in_range b row column ≡
       (λ t. ltb-false f (span_end b) t)
 
   -- the way back in one bank: one candidate, and one test of it
-  pub address-at :
+  pub address_at_lem :
       address_at b row column
       ≡ cond (ltb (doubleword_for b (cell_in_bank_at b row column)) (span_end b)) (given (8 * doubleword_for b (cell_in_bank_at b row column))) (refused (17 ∷ []))
   unfolding address_at
-  address-at =
+  address_at_lem =
       let d = doubleword_for b (cell_in_bank_at b row column) in
       by_cases (ltb d (span_end b))
       (λ t. let e = doubleword_found (ltb-true d (span_end b) t) in rw (e, t))
       (λ t. let u = le-ltb (doubleword_at b row column) (span_end b) (doubleword_none (ltb-false d (span_end b) t)) in simp (t, u))
 
   pub address_given_lem : doubleword_for b (cell_in_bank_at b row column) < span_end b → address_at b row column ≡ given (8 * doubleword_for b (cell_in_bank_at b row column))
-  address_given_lem l = address-at ∙ simp (lt-ltb (doubleword_for b (cell_in_bank_at b row column)) (span_end b) l)
+  address_given_lem l = address_at_lem ∙ simp (lt-ltb (doubleword_for b (cell_in_bank_at b row column)) (span_end b) l)
 
   pub address_none : span_end b ≤ doubleword_for b (cell_in_bank_at b row column) → address_at b row column ≡ refused (17 ∷ [])
-  address_none l = address-at ∙ simp (le-ltb (doubleword_for b (cell_in_bank_at b row column)) (span_end b) l)
+  address_none l = address_at_lem ∙ simp (le-ltb (doubleword_for b (cell_in_bank_at b row column)) (span_end b) l)

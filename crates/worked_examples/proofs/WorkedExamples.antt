@@ -27,7 +27,7 @@ unfolding two_banks start_of last_of enabled_of row_code megabytes row_bits_of f
 no_address = address_none (bank setup 1) (record { 0 = 256 }) (record { 0 = 0 }) refl (omega arith)
 
 -- EX-1, EX-2, EX-4 to EX-6, EX-8
-pub worked-examples :
+pub worked_examples :
     (check_of columns (replicate 8 0) ≡ 0x00)
     × (check_of columns (0x80 ∷ replicate 7 0) ≡ 0x07)
     × (check_of columns (0xFF ∷ replicate 7 0) ≡ 0x06)
@@ -43,10 +43,10 @@ pub worked-examples :
 unfolding bit_at data_bit flip_column xor_of check_of bit_reading reading_of first_of first sum two_banks start_of last_of enabled_of row_code megabytes row_bits_of fits column_limit column_bits_of
     enabled_bank bank_of setup_of lowest inverted too_long faulty fault_of meets meets_lower lowest_meeting judged ready not_ready holds bank_at cells cell_in_bank row_of column_of share
     cells_below place_of in_span located mapped
-worked-examples = (refl, refl, refl, refl, refl, refl, refl, refl, refl, refl, refl, no_address)
+worked_examples = (refl, refl, refl, refl, refl, refl, refl, refl, refl, refl, refl, no_address)
 
 -- EX-9, EX-12: the longest banks, and one of thirteen rows
-pub bank-lengths :
+pub bank_lengths :
     (judged (one_bank 0 1 0) ≡ none)
     × (judged (one_bank 0 2 0) ≡ some (13 ∷ 0 ∷ []))
     × (judged (one_bank 0 127 3) ≡ none)
@@ -61,4 +61,4 @@ pub bank-lengths :
     × (mapped (one_bank 1 256 3) 0x100FFFFF ≡ given (some (record { bank = 0; row = record { 0 = 31 }; column = record { 0 = 4095 }; cell = 131071 })))
 unfolding first_of first sum one_bank start_of last_of enabled_of row_code megabytes row_bits_of fits column_limit column_bits_of enabled_bank bank_of setup_of lowest inverted too_long faulty fault_of
     meets meets_lower lowest_meeting judged ready not_ready holds bank_at cells cell_in_bank row_of column_of share cells_below place_of in_span located mapped
-bank-lengths = (refl, refl, refl, refl, refl, refl, refl, refl, refl, refl, refl, refl)
+bank_lengths = (refl, refl, refl, refl, refl, refl, refl, refl, refl, refl, refl, refl)

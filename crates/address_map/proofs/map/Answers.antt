@@ -27,7 +27,7 @@ returns-then-bank-lt-NO_BANK c =
     let s = setup_by c.fields_of-fields.result in
     let to = route_by c.select.result in
     let l = rw c.bank_of-bank.ensures at c.if-bank-lt-NO_BANK.true in
-    rw (← (of_record a.r h c.fields_of-fields.result c.fields_of-fields.ensures).0, (found to s a.address c.select.ensures.result_value l).on, located_found to s a.address c.select.ensures.result_value l, c.IsPlace-in.ensures)
+    rw (← (of_record a.r h c.fields_of-fields.result c.fields_of-fields.ensures).0, (found to s a.address c.select.ensures.result_value l).on, located_found to s a.address c.select.ensures.result_value l, c.place_in.ensures)
 
 pub returns-then-bank-eq-NO_BANK : goal.returns-then-bank-eq-NO_BANK
 unfolding mapped located

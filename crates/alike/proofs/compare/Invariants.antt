@@ -15,7 +15,7 @@ use Rattle.banks.specs.Judge.{not_ready}
 use Rattle.banks.proofs.FieldLaws.{bounded}
 use Rattle.alike.specs.Alike.{compared}
 use Rattle.alike.specs.CodeMegabyte.{same_bank}
-use Rattle.alike.proofs.BankLaws.{records-alike, every_more, every_stops}
+use Rattle.alike.proofs.BankLaws.{records_alike, every_more, every_stops}
 use Rattle.alike.proofs.compare.Given as goal
 
 abbrev pub invariant-loop-n : goal.invariant-loop-n

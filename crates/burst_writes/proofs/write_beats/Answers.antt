@@ -25,7 +25,7 @@ returns-then-not-are_allowed c =
     let at : ℕ → ℕ = λ i. cell_by c.args.to (beat_address a i) in
     let beat : ℕ → Access = λ i. write_in (beat_address a i) (beat_bytes bs i) in
     nine_left (lent_state c.args.registers.now cells) _ (four_judged cells (at 0) (at 1) (beat 0) (beat 1) (at 2) (at 3) (beat 2) (beat 3))
-    (sym c.are_allowed.ensures.value ∙ not-true _ c.if-not-are_allowed.true-raw) c.refuse.result [] c.refuse.ensures
+    (sym c.are_allowed.ensures.value ∙ c.if-not-are_allowed.true) c.refuse.result [] c.refuse.ensures
 
 pub shape_of-cells : goal.shape_of-cells
 shape_of-cells c =
@@ -38,7 +38,7 @@ returns c =
     let bs = c.args.bytes.now in
     let at : ℕ → ℕ = λ i. cell_by c.args.to (beat_address a i) in
     let beat : ℕ → Access = λ i. write_in (beat_address a i) (beat_bytes bs i) in
-    let all = sym c.are_allowed.ensures.value ∙ not-false _ c.if-not-are_allowed.false-raw in
+    let all = sym c.are_allowed.ensures.value ∙ c.if-not-are_allowed.false in
     let p = is_allowed (length cells) (at 0) in
     let q = is_allowed (length cells) (at 1) in
     let u = is_allowed (length cells) (at 2) in

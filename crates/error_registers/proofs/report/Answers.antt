@@ -8,14 +8,6 @@ use Rattle.calls.specs.CodeOutcomes.{kind_by}
 use Rattle.error_registers.specs.Errors.{reported}
 use Rattle.error_registers.proofs.report.Goals as goal
 
--- clean and stored are left, and neither is reported
-returns-4 : tie.Need-returns-4
-unfolding reported kind_by
-returns-4 c =
-    let n = c.before.before.before.args.outcome in
-    rw (le-ltb n 72 (omega (arith, c.before.before.if1.false)), ne_eqb n 73 c.before.if2.false, ne_eqb n 74 c.if3.false)
-    (by_cases (eqb n 72) (λ t. rw t) (λ t. rw t))
-
 pub returns-then-outcome-lt-CLEAN : goal.returns-then-outcome-lt-CLEAN
 unfolding reported kind_by
 returns-then-outcome-lt-CLEAN c =
@@ -28,3 +20,11 @@ returns-then-outcome-eq-UNCORRECTABLE c = rw c.if-outcome-eq-UNCORRECTABLE.true 
 pub returns-then-outcome-eq-NO_BANK : goal.returns-then-outcome-eq-NO_BANK
 unfolding kind_by
 returns-then-outcome-eq-NO_BANK c = rw c.if-outcome-eq-NO_BANK.true c.report_no_bank.ensures
+
+-- clean and stored are left, and neither is reported
+pub returns-else-outcome-eq-NO_BANK : goal.returns-else-outcome-eq-NO_BANK
+unfolding reported kind_by
+returns-else-outcome-eq-NO_BANK c =
+    let n = c.args.outcome in
+    rw (le-ltb n 72 (omega (arith, c.if-outcome-lt-CLEAN.false)), ne_eqb n 73 c.if-outcome-eq-UNCORRECTABLE.false, ne_eqb n 74 c.if-outcome-eq-NO_BANK.false)
+    (by_cases (eqb n 72) (λ t. rw t) (λ t. rw t))

@@ -1,4 +1,4 @@
--- The size of a bank is that of a sound one (`sound_bits`), or of a faulty one (`faulty-bits`).
+-- The size of a bank is that of a sound one (`sound_bits`), or of a faulty one (`faulty_bits`).
 use Prim.Native.Nat.{◌+◌, ◌*◌, ◌/◌, ◌%◌}
 use mathlib.Core.Path.{◌≡◌, ◌∙◌}
 use native.Mathlib.Omega.{arith}
@@ -8,7 +8,7 @@ use Rattle.address_map.specs.CodeFields.{code_by, enabled_by}
 use Rattle.address_map.specs.CodeSelection.{megabyte_bits}
 use Rattle.address_map.proofs.SetupLaws.{decoded_enabled}
 use Rattle.address_map.proofs.SizeLaws.{few_bits}
-use Rattle.judging.proofs.DecodingLaws.{sound_bits, faulty_known, faulty-bits}
+use Rattle.judging.proofs.DecodingLaws.{sound_bits, faulty_known, faulty_bits}
 use borrow.Author.Rules.{rules}
 use Rattle.judging.proofs.bits_in.Goals as goal
 
@@ -28,7 +28,7 @@ returns-then-fields-n c =
     let n = a.n in
     let same : n % 8 ≡ n = omega arith in
     let bits = rw same at c.bits_unless_faulty-bits.ensures in
-    let law = faulty-bits f n (faulty_known f n (rw bits at c.if-bits-lt-FAULTY.false)) in
+    let law = faulty_bits f n (faulty_known f n (rw bits at c.if-bits-lt-FAULTY.false)) in
     let code = rw same at c.row_code-code.ensures.value in
     let e = code ∙ (rw (lt-ltb (get_or f (8 + n) 0) (get_or f n 0) c.if-fields-n.true) at law) in
     (e, omega (arith, e, few_bits (enabled_by f n) (decoded_enabled f n)))
@@ -40,7 +40,7 @@ returns c =
     let n = a.n in
     let same : n % 8 ≡ n = omega arith in
     let bits = rw same at c.bits_unless_faulty-bits.ensures in
-    let law = faulty-bits f n (faulty_known f n (rw bits at c.if-bits-lt-FAULTY.false)) in
+    let law = faulty_bits f n (faulty_known f n (rw bits at c.if-bits-lt-FAULTY.false)) in
     let code : c.row_code-code.result ≡ code_by f n = rw same at c.row_code-code.ensures.value in
     let e : 2 * c.row_code-code.result + 1 + c.row_code-code.result / 3 ≡ megabyte_bits (enabled_by f n) = rw code (rw (le-ltb (get_or f (8 + n) 0) (get_or f n 0) c.if-fields-n.false) at law) in
     (e, omega (arith, e, few_bits (enabled_by f n) (decoded_enabled f n)))

@@ -6,7 +6,7 @@ use Rattle.address_map.specs.CodeFields.{code_by, enabled_by}
 use Rattle.address_map.specs.CodeSelection.{megabyte_bits}
 use Rattle.address_map.proofs.SetupLaws.{code_below, decoded_enabled}
 use Rattle.address_map.proofs.SizeLaws.{few_bits, rows_by_bits, columns_are, rows_left}
-use Rattle.judging.proofs.DecodingLaws.{bank-parts}
+use Rattle.judging.proofs.DecodingLaws.{bank_parts}
 use borrow.Author.Rules.{rules}
 use Rattle.judging.proofs.enabled_bank.Goals as goal
 
@@ -24,4 +24,4 @@ returns c =
     let few : megabyte_bits b % 16 ≡ megabyte_bits b = omega (arith, few_bits b d) in
     let k : c.column_bits-columns.result ≡ b.column_bits = c.column_bits-columns.ensures ∙ rw (code, bits, small, few, ← rows_by_bits f n) (columns_are b d) in
     let r : 17 + c.bits_in-bits.result - c.column_bits-columns.result ≡ b.row_bits = rw (bits, k) (rows_left b d) in
-    rw (r, k, c.wide.ensures, c.wide-2.ensures) (bank-parts f n)
+    rw (r, k, c.wide.ensures, c.wide-2.ensures) (bank_parts f n)

@@ -29,7 +29,7 @@ returns-then-not-is_allowed c =
     let x = read_in a (room a) in
     let y = read_in (next_doubleword a) (length c.args.buffer.now - room a) in
     nine_left (lent_state c.args.registers.now cells) _ (two_judged cells k l x y)
-    (rw (c.is_allowed.ensures, c.is_allowed-2.ensures) at (not-true (c.is_allowed.result && c.is_allowed-2.result) c.if-not-is_allowed.true-raw)) c.refuse.result c.args.buffer.now c.refuse.ensures
+    (rw (c.is_allowed.ensures, c.is_allowed-2.ensures) at (c.if-not-is_allowed.true)) c.refuse.result c.args.buffer.now c.refuse.ensures
 
 pub returns : goal.returns
 returns c =
@@ -41,7 +41,7 @@ returns c =
     let x = read_in a (room a) in
     let y = read_in (next_doubleword a) (n - room a) in
     let s₀ = lent_state c.args.registers.now cells in
-    let both = rw (c.is_allowed.ensures, c.is_allowed-2.ensures) at (not-false (c.is_allowed.result && c.is_allowed-2.result) c.if-not-is_allowed.false-raw) in
+    let both = rw (c.is_allowed.ensures, c.is_allowed-2.ensures) at (c.if-not-is_allowed.false) in
     let here = lent_target cells (length cells) refl (omega arith) k k refl (and_left (is_allowed (length cells) k) (is_allowed (length cells) l) both) in
     let there = lent_target cells (length cells) refl (omega arith) l l refl (and_right (is_allowed (length cells) k) (is_allowed (length cells) l) both) in
     let at_next = next_exact a c.next_doubleword.result c.requires.2 c.next_doubleword.ensures in

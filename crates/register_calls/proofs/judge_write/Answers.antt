@@ -12,7 +12,7 @@ returns-then-not-is_listed c = simp (← c.is_listed.ensures, c.if-not-is_listed
 
 pub overflow_cast-o : goal.overflow_cast-o
 overflow_cast-o c =
-    record { fits = listed_below c.args.offset (sym c.is_listed.ensures ∙ not-false c.is_listed.result c.if-not-is_listed.false-raw) }
+    record { fits = listed_below c.args.offset (sym c.is_listed.ensures ∙ c.if-not-is_listed.false) }
 
 pub returns-then-is_read_only : goal.returns-then-is_read_only
 unfolding declined

@@ -17,14 +17,14 @@ use Rattle.way_back.proofs.way_back.Goals as goal
 pub returns-then-not-is_ready : goal.returns-then-not-is_ready
 unfolding back not_ready
 returns-then-not-is_ready c =
-    simp (← c.is_ready.ensures, not-true c.is_ready.result c.if-not-is_ready.true-raw)
+    simp (← c.is_ready.ensures, c.if-not-is_ready.true)
 
 pub returns-then-not-b : goal.returns-then-not-b
 unfolding back not_ready
 returns-then-not-b c =
     let a = c.args in
     rw (enabled_below a.r a.bank)
-    (simp (← c.is_ready.ensures, not-false c.is_ready.result c.if-not-is_ready.false-raw, ← c.decode_bank-b.ensures, not-true c.decode_bank-b.result.enabled c.if-not-b.true))
+    (simp (← c.is_ready.ensures, c.if-not-is_ready.false, ← c.decode_bank-b.ensures, not-true c.decode_bank-b.result.enabled c.if-not-b.true))
 
 pub is_in_range-requires : goal.is_in_range-requires
 is_in_range-requires c =
@@ -37,17 +37,17 @@ unfolding back not_ready
 returns-then-not-is_in_range c =
     let a = c.args in
     rw (enabled_below a.r a.bank)
-    (simp (← c.is_ready.ensures, not-false c.is_ready.result c.if-not-is_ready.false-raw, ← c.decode_bank-b.ensures, not-false c.decode_bank-b.result.enabled c.if-not-b.false, ← c.is_in_range.ensures, not-true c.is_in_range.result c.if-not-is_in_range.true-raw))
+    (simp (← c.is_ready.ensures, c.if-not-is_ready.false, ← c.decode_bank-b.ensures, not-false c.decode_bank-b.result.enabled c.if-not-b.false, ← c.is_in_range.ensures, c.if-not-is_in_range.true))
 
 pub address-requires : goal.address-requires
 address-requires c =
     let a = c.args in
     let h : (o : ℕ) → o < 256 → at a.r o < 256 = λ o l. (let x : Fits w8 (get_or a.r.bytes o 0) = search rules in x.fits) in
-    (rw c.decode_bank-b.ensures (bounded a.r h a.bank), sym c.is_in_range.ensures ∙ not-false c.is_in_range.result c.if-not-is_in_range.false-raw)
+    (rw c.decode_bank-b.ensures (bounded a.r h a.bank), sym c.is_in_range.ensures ∙ c.if-not-is_in_range.false)
 
 pub returns : goal.returns
 unfolding back not_ready address_at
 returns c =
     let a = c.args in
     rw (enabled_below a.r a.bank)
-    (simp (← c.is_ready.ensures, not-false c.is_ready.result c.if-not-is_ready.false-raw, ← c.decode_bank-b.ensures, not-false c.decode_bank-b.result.enabled c.if-not-b.false, ← c.is_in_range.ensures, not-false c.is_in_range.result c.if-not-is_in_range.false-raw, c.address.ensures))
+    (simp (← c.is_ready.ensures, c.if-not-is_ready.false, ← c.decode_bank-b.ensures, not-false c.decode_bank-b.result.enabled c.if-not-b.false, ← c.is_in_range.ensures, c.if-not-is_in_range.false, c.address.ensures))

@@ -28,7 +28,7 @@ returns-then-not-is_allowed c =
     let x = write_in a (take (room a) bs) in
     let y = write_in (next_doubleword a) (drop (room a) bs) in
     nine_left (lent_state c.args.registers.now cells) _ (two_judged cells k l x y)
-    (rw (c.is_allowed.ensures, c.is_allowed-2.ensures) at (not-true (c.is_allowed.result && c.is_allowed-2.result) c.if-not-is_allowed.true-raw)) c.refuse.result [] c.refuse.ensures
+    (rw (c.is_allowed.ensures, c.is_allowed-2.ensures) at (c.if-not-is_allowed.true)) c.refuse.result [] c.refuse.ensures
 
 pub overflow_mul-rest : goal.overflow_mul-rest
 overflow_mul-rest c =
@@ -55,7 +55,7 @@ returns c =
     let x = write_in a (take (room a) bs) in
     let y = write_in (next_doubleword a) (drop (room a) bs) in
     let s₀ = lent_state c.args.registers.now cells in
-    let both = rw (c.is_allowed.ensures, c.is_allowed-2.ensures) at (not-false (c.is_allowed.result && c.is_allowed-2.result) c.if-not-is_allowed.false-raw) in
+    let both = rw (c.is_allowed.ensures, c.is_allowed-2.ensures) at (c.if-not-is_allowed.false) in
     let here = and_left (is_allowed (length cells) k) (is_allowed (length cells) l) both in
     let there = and_right (is_allowed (length cells) k) (is_allowed (length cells) l) both in
     let at_next = next_exact a c.next_doubleword-next.result c.requires.2 c.next_doubleword-next.ensures in

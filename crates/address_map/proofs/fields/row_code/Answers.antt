@@ -8,4 +8,4 @@ pub returns : goal.returns
 unfolding code_by
 returns c =
     let code = c.wide.ensures.value ∙ and_mask _ 2 in
-    (code, omega (arith, code))
+    record { value = code; bound = omega (arith, code) }

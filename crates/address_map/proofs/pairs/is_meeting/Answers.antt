@@ -1,6 +1,6 @@
--- Two enabled banks meet if each starts no later than the other ends, by `meeting-in`.
+-- Two enabled banks meet if each starts no later than the other ends, by `meeting_in`.
 use Rattle.std.proofs.Common.{◌≡◌, ◌%◌, arith, rules}
-use Rattle.address_map.proofs.PairLaws.{meeting-in}
+use Rattle.address_map.proofs.PairLaws.{meeting_in}
 use Rattle.address_map.proofs.pairs.is_meeting.Goals as goal
 
 pub returns : goal.returns
@@ -10,4 +10,4 @@ returns c =
     let same-n : n % 8 ≡ n = omega (arith, c.requires.0) in
     let same-m : m % 8 ≡ m = omega (arith, c.requires.1) in
     rw (c.is_enabled.ensures, c.is_enabled-2.ensures, c.start_of.ensures.value, c.last_of.ensures.value, c.start_of-2.ensures.value, c.last_of-2.ensures.value, same-n, same-m)
-    (meeting-in c.args.fields.now n m c.requires.0 c.requires.1)
+    (meeting_in c.args.fields.now n m c.requires.0 c.requires.1)

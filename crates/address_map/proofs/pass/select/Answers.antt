@@ -16,7 +16,8 @@ use Rattle.address_map.proofs.pass.select.Goals as goal
 pub returns-then-not-is_on : goal.returns-then-not-is_on
 returns-then-not-is_on c =
     let s : Setup = setup_by c.args.fields.now in
-    declined s c.args.mb (unready_off s (sym c.is_on.ensures ∙ not-true c.is_on.result c.if-not-is_on.true-raw))
+    let told = declined s c.args.mb (unready_off s (sym c.is_on.ensures ∙ c.if-not-is_on.true)) in
+    record { result_value = told.0; counted = told.1 }
 
 pub overflow_cast-rest : goal.overflow_cast-rest
 overflow_cast-rest c =
@@ -25,7 +26,8 @@ overflow_cast-rest c =
 pub returns-then-rest-eq0 : goal.returns-then-rest-eq0
 returns-then-rest-eq0 c =
     let f = c.args.fields.now in
-    declined (setup_by f) c.args.mb (unready_none (setup_by f) (none_enabled f c.requires c.if-rest-eq0.true))
+    let told = declined (setup_by f) c.args.mb (unready_none (setup_by f) (none_enabled f c.requires c.if-rest-eq0.true)) in
+    record { result_value = told.0; counted = told.1 }
 
 pub loop-rest-init : goal.loop-rest-init
 loop-rest-init c =
@@ -35,7 +37,8 @@ pub returns-then-size-eq-FAULTY : goal.returns-then-size-eq-FAULTY
 returns-then-size-eq-FAULTY c =
     let some = c.loop-rest-test.true in
     let f = c.args.fields.now in
-    declined (setup_by f) c.args.mb (unready_faulty (setup_by f) (faulty_here c.loop-rest.invariant some c.bits_unless_faulty-size.ensures c.if-size-eq-FAULTY.true))
+    let told = declined (setup_by f) c.args.mb (unready_faulty (setup_by f) (faulty_here c.loop-rest.invariant some c.bits_unless_faulty-size.ensures c.if-size-eq-FAULTY.true)) in
+    record { result_value = told.0; counted = told.1 }
 
 pub is_within-is_here-requires : goal.is_within-is_here-requires
 is_within-is_here-requires c =
@@ -78,7 +81,7 @@ loop-rest-preserved c =
     let from = rw same at c.start_of-start.ensures.value in
     let to = rw same at c.last_of-last.ensures.value in
     rw (c.choose-bank.ensures, c.choose-first.ensures, c.choose-bits.ensures, c.is_within-is_here.ensures, c.power-base.ensures, from, to)
-    (going_next c.loop-rest.invariant some c.bits_unless_faulty-size.ensures c.if-size-eq-FAULTY.false (rw to at c.last_of-last.ensures.bound) w.result v.fits (rw from at w.ensures))
+    (going_next c.loop-rest.invariant some c.bits_unless_faulty-size.ensures c.if-size-eq-FAULTY.false (rw to at c.last_of-last.ensures.bound) w.result v.fits (rw from at w.ensures.value))
 
 pub is_apart-requires : goal.is_apart-requires
 is_apart-requires c =
@@ -96,12 +99,14 @@ returns-then-is_apart c =
     let s : Setup = setup_by f in
     let end = going_end c.loop-rest.invariant c.loop-rest-test.false in
     let clear = leb-true 8 (lowest_meeting s) (sym c.is_apart.ensures ∙ c.if-is_apart.true) in
-    let on = sym c.is_on.ensures ∙ not-false c.is_on.result c.if-not-is_on.false-raw in
+    let on = sym c.is_on.ensures ∙ c.if-not-is_on.false in
     let ready = ready_from s on (some_enabled f c.requires c.if-rest-eq0.false) (none_faulty end) clear in
     let packed = c.packed.ensures in
-    chosen end ready (route_by c.packed.result) packed.0 (packed.1 ∙ c.choose.ensures) packed.2
+    let told = chosen end ready (route_by c.packed.result) packed.0 (packed.1 ∙ c.choose.ensures) packed.2 in
+    record { result_value = told.0; counted = told.1 }
 
 pub returns : goal.returns
 returns c =
     let s : Setup = setup_by c.args.fields.now in
-    declined s c.args.mb (unready_meeting s (leb-false 8 (lowest_meeting s) (sym c.is_apart.ensures ∙ c.if-is_apart.false)))
+    let told = declined s c.args.mb (unready_meeting s (leb-false 8 (lowest_meeting s) (sym c.is_apart.ensures ∙ c.if-is_apart.false))) in
+    record { result_value = told.0; counted = told.1 }

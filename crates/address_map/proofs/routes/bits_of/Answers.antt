@@ -5,4 +5,4 @@ use Rattle.address_map.proofs.routes.bits_of.Goals as goal
 
 pub returns : goal.returns
 unfolding bits_in
-returns c = (refl, omega arith)
+returns c = record { value = refl; bound = omega arith }

@@ -7,7 +7,7 @@ use Rattle.address_map.proofs.routes.cell_in_bank.Goals as goal
 pub overflow_sub-result : goal.overflow_sub-result
 overflow_sub-result c =
     let bits = c.bits_of in
-    rw (one_shl 64 (17 + bits.result) (omega (arith, bits.ensures.1))) (omega (arith, pow_pos (17 + bits.result)))
+    rw (one_shl 64 (17 + bits.result) (omega (arith, bits.ensures.bound))) (omega (arith, pow_pos (17 + bits.result)))
 
 pub overflow_cast-result-3 : goal.overflow_cast-result-3
 overflow_cast-result-3 c =
@@ -16,4 +16,4 @@ overflow_cast-result-3 c =
 pub returns : goal.returns
 returns c =
     let bits = c.bits_of in
-    rw (one_shl 64 (17 + bits.result) (omega (arith, bits.ensures.1)), and_mask (c.args.address / 8) (17 + bits.result), bits.ensures.0)
+    rw (one_shl 64 (17 + bits.result) (omega (arith, bits.ensures.bound)), and_mask (c.args.address / 8) (17 + bits.result), bits.ensures.value)

@@ -11,4 +11,4 @@ returns c =
     let w = c.wrapping_sub_u32-span in
     let v : Fits w32 w.result = search rules in
     rw (c.choose.ensures, c.longest.ensures, code)
-    (bits_are c.args.fields.now (c.args.n % 8) w.result c.size_bits-bits.result (rw from.0 at from.1) (rw to.0 at to.1) v.fits (rw (from.0, to.0) at w.ensures) (rw code at c.size_bits-bits.ensures))
+    (bits_are c.args.fields.now (c.args.n % 8) w.result c.size_bits-bits.result (rw from.value at from.bound) (rw to.value at to.bound) v.fits (rw (from.value, to.value) at w.ensures.value) (rw code at c.size_bits-bits.ensures))

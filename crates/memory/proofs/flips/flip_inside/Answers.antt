@@ -18,7 +18,7 @@ returns-then-not-is_allowed c =
     let cells = c.args.cells.now in
     let k = c.args.k in
     let x = flip_in c.args.address c.args.bit in
-    λ r. nine_left (state r cells) _ (one_judged cells k k x x) (sym c.is_allowed.ensures ∙ not-true _ c.if-not-is_allowed.true-raw) c.refuse.result [] c.refuse.ensures
+    λ r. nine_left (state r cells) _ (one_judged cells k k x x) (sym c.is_allowed.ensures ∙ c.if-not-is_allowed.true) c.refuse.result [] c.refuse.ensures
 
 pub returns : goal.returns
 returns c =
@@ -27,6 +27,6 @@ returns c =
     let a = c.args.address in
     let b = c.args.bit in
     let x = flip_in a b in
-    let allowed = sym c.is_allowed.ensures ∙ not-false _ c.if-not-is_allowed.false-raw in
+    let allowed = sym c.is_allowed.ensures ∙ c.if-not-is_allowed.false in
     let lent = lent_target cells (length cells) refl (omega arith) k k refl allowed in
     λ r. one_left (state r cells) _ (target_of k) x (one_judged cells k k x x) allowed (flip_does (state r cells) k a b (lent ∙ c.requires) c.requires _ c.flip.ensures) c.one.result [] [] c.one.ensures refl refl

@@ -17,12 +17,12 @@ returns-then-not-is_allowed c =
     let cells = c.args.cells.now in
     let k = c.args.k in
     let x = scrub_in c.args.address in
-    nine_left (lent_state c.args.registers.now cells) _ (one_judged cells k k x x) (sym c.is_allowed.ensures ∙ not-true _ c.if-not-is_allowed.true-raw) c.refuse.result [] c.refuse.ensures
+    nine_left (lent_state c.args.registers.now cells) _ (one_judged cells k k x x) (sym c.is_allowed.ensures ∙ c.if-not-is_allowed.true) c.refuse.result [] c.refuse.ensures
 
 pub returns : goal.returns
 returns c =
     let cells = c.args.cells.now in
     let k = c.args.k in
     let x = scrub_in c.args.address in
-    let allowed = sym c.is_allowed.ensures ∙ not-false _ c.if-not-is_allowed.false-raw in
+    let allowed = sym c.is_allowed.ensures ∙ c.if-not-is_allowed.false in
     one_left (lent_state c.args.registers.now cells) _ (target_of k) x (one_judged cells k k x x) allowed (on_target_lem _ _ _ _ _ c.scrub.ensures (length cells) refl (omega arith) k refl allowed x refl) c.one.result [] [] c.one.ensures c.kind_of.ensures refl
