@@ -19,7 +19,7 @@ returns-then-bits-lt-FAULTY c =
     let same : a.n % 8 ≡ a.n = omega arith in
     let bits = rw same at c.bits_unless_faulty-bits.ensures in
     let e = bits ∙ sound_bits f a.n (rw bits at c.if-bits-lt-FAULTY.true) in
-    (e, omega (arith, e, few_bits (enabled_by f a.n) (decoded_enabled f a.n)))
+    record { value = e; bound = omega (arith, e, few_bits (enabled_by f a.n) (decoded_enabled f a.n)) }
 
 pub returns-then-fields-n : goal.returns-then-fields-n
 returns-then-fields-n c =
@@ -31,7 +31,7 @@ returns-then-fields-n c =
     let law = faulty_bits f n (faulty_known f n (rw bits at c.if-bits-lt-FAULTY.false)) in
     let code = rw same at c.row_code-code.ensures.value in
     let e = code ∙ (rw (lt-ltb (get_or f (8 + n) 0) (get_or f n 0) c.if-fields-n.true) at law) in
-    (e, omega (arith, e, few_bits (enabled_by f n) (decoded_enabled f n)))
+    record { value = e; bound = omega (arith, e, few_bits (enabled_by f n) (decoded_enabled f n)) }
 
 pub returns : goal.returns
 returns c =
@@ -43,4 +43,4 @@ returns c =
     let law = faulty_bits f n (faulty_known f n (rw bits at c.if-bits-lt-FAULTY.false)) in
     let code : c.row_code-code.result ≡ code_by f n = rw same at c.row_code-code.ensures.value in
     let e : 2 * c.row_code-code.result + 1 + c.row_code-code.result / 3 ≡ megabyte_bits (enabled_by f n) = rw code (rw (le-ltb (get_or f (8 + n) 0) (get_or f n 0) c.if-fields-n.false) at law) in
-    (e, omega (arith, e, few_bits (enabled_by f n) (decoded_enabled f n)))
+    record { value = e; bound = omega (arith, e, few_bits (enabled_by f n) (decoded_enabled f n)) }

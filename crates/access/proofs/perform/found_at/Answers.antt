@@ -17,10 +17,10 @@ pub returns-then-is_lent : goal.returns-then-is_lent
 unfolding is_lent
 returns-then-is_lent c =
     let lent : is_lent c.args.cells.now c.args.k ≡ true = sym c.is_lent.ensures ∙ c.if-is_lent.true in
-    (c.syndrome_at.ensures ∙ sym (found_syndrome c.args.cells.now c.args.k lent), λ t. omega arith)
+    record { value = c.syndrome_at.ensures ∙ sym (found_syndrome c.args.cells.now c.args.k lent); bound = λ t. omega arith }
 
 pub returns : goal.returns
 unfolding found_at is_lent
 returns c =
     let out : is_lent c.args.cells.now c.args.k ≡ false = sym c.is_lent.ensures ∙ c.if-is_lent.false in
-    (rw out, λ t. contra t out)
+    record { value = rw out; bound = λ t. contra t out }

@@ -15,16 +15,14 @@ use borrow.Author.Rules.{rules}
 use Rattle.byte_lanes.proofs.out.copy_from.Goals as goal
 
 -- eight bytes from an offset on are all, from 0 on
-returns : tie.Need-returns invariant-loop decreases-loop
-returns c =
-    let copied = c.before.before in
-    let eight = copied.before.before in
-    let a = eight.before.before.args in
+pub returns-then-buffer-eq8 : goal.returns-then-buffer-eq8
+returns-then-buffer-eq8 c =
+    let a = c.args in
     let bytes = bytes_of_number a.doubleword in
-    let n : length a.buffer.now ≡ 8 = eight.if1.true in
+    let n : length a.buffer.now ≡ 8 = c.if-buffer-eq8.true in
     let z : a.offset ≡ 0 = omega arith in
     let all = number_length a.doubleword in
-    copied.copy-eight.ensures ∙ all_stored a.buffer.now bytes (omega arith) ∙ rw (n, z) (sym (take_all 8 bytes (omega arith)))
+    c.copy_eight.ensures ∙ all_stored a.buffer.now bytes (omega arith) ∙ rw (n, z) (sym (take_all 8 bytes (omega arith)))
 
 pub copy_eight-requires : goal.copy_eight-requires
 copy_eight-requires c = omega arith

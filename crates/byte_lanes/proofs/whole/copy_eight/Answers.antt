@@ -13,5 +13,5 @@ returns c =
     let a = c.args in
     let bytes = c.bytes_of-bytes.result in
     c.store_four-2.ensures
-    ∙ stored_on a.buffer.now c.store_four.new.0 (list_from bytes 0 4) (list_from bytes 4 4) a.at _ c.store_four.ensures refl
+    ∙ stored_on a.buffer.now c.store_four.new.buffer (list_from bytes 0 4) (list_from bytes 4 4) a.at _ c.store_four.ensures refl
     ∙ ap (sets a.buffer.now a.at) (from_all bytes 8 (search rules) ∙ c.bytes_of-bytes.ensures)

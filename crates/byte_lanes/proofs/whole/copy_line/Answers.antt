@@ -17,7 +17,7 @@ returns c =
     let k₂ = c.copy_eight-3 in
     let k₃ = c.copy_eight-4 in
     rw (eq-eqb _ 32 c.if-buffer-ne32.false)
-    (four_stored a.buffer.now k₀.new.1.0 k₁.new.1.0 k₂.new.1.0 k₃.new.1.0
+    (four_stored a.buffer.now k₀.new.buffer k₁.new.buffer k₂.new.buffer k₃.new.buffer
     (bytes_of_number a.first) (bytes_of_number a.second) (bytes_of_number a.third) (bytes_of_number a.fourth)
     (number_length a.first) (number_length a.second) (number_length a.third) (number_length a.fourth) c.if-buffer-ne32.false
     k₀.ensures k₁.ensures k₂.ensures k₃.ensures)

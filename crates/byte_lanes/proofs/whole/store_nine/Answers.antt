@@ -18,10 +18,10 @@ pub returns : goal.returns
 returns c =
     let a = c.args in
     let lent = a.lent.now in
-    let nine = a.t2 in
+    let nine = a.nine in
     let k₀ = c.store_four in
     let k₁ = c.store_four-2 in
-    let eight = k₁.ensures ∙ stored_on lent k₀.new.0 (list_from nine 0 4) (list_from nine 4 4) 0 4 k₀.ensures refl in
+    let eight = k₁.ensures ∙ stored_on lent k₀.new.buffer (list_from nine 0 4) (list_from nine 4 4) 0 4 k₀.ensures refl in
     rw (eq-eqb _ 9 c.if-lent-ne9.false)
-    (stored_on lent k₁.new.0 (list_from nine 0 8) (list_from nine 8 1) 0 8 eight refl
+    (stored_on lent k₁.new.buffer (list_from nine 0 8) (list_from nine 8 1) 0 8 eight refl
     ∙ all_stored lent (list_from nine 0 9) (omega arith) ∙ from_all nine 9 (search rules))

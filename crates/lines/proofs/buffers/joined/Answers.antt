@@ -19,7 +19,7 @@ pub copy-requires : goal.copy-requires
 copy-requires c =
     let args = c.args in
     let n = c.least-n in
-    let size : length args.t1 ≡ most_carried = search rules in
+    let size : length args.start ≡ most_carried = search rules in
     let few = least_le args.len most_carried n.result n.ensures in
     (omega arith, omega (arith, few))
 
@@ -30,9 +30,9 @@ copy-requires-2 c =
     let more = c.least-more in
     let few = least_le args.len most_carried n.result n.ensures in
     let rest = least_le (most_carried - n.result) (length args.part.now) more.result more.ensures in
-    let start : length args.t1 ≡ most_carried = search rules in
+    let start : length args.start ≡ most_carried = search rules in
     let size : length c.copy.new.1.1.0 ≡ most_carried =
-    ap length c.copy.ensures ∙ length-paste (zeros most_carried) 0 args.t1 n.result (omega (arith, few)) (omega arith) in
+    ap length c.copy.ensures ∙ length-paste (zeros most_carried) 0 args.start n.result (omega (arith, few)) (omega arith) in
     (rest.1, omega arith)
 
 pub overflow_add-result : goal.overflow_add-result
@@ -49,6 +49,6 @@ returns c =
     let args = c.args in
     let n = c.least-n in
     let more = c.least-more in
-    let size : length args.t1 ≡ most_carried = search rules in
+    let size : length args.start ≡ most_carried = search rules in
     rw (c.copy-2.ensures, c.copy.ensures)
-    (joined_is args.t1 args.part.now args.len n.result more.result size n.ensures more.ensures)
+    (joined_is args.start args.part.now args.len n.result more.result size n.ensures more.ensures)
