@@ -32,4 +32,4 @@ pub returns : goal.returns
 returns c =
     let a = c.args in
     let e = one_shl 32 a.b.column_bits (omega arith) in
-    (rw e, rw e (cell_in_bank_below a.b a.row a.column c.requires.1))
+    record { value = rw e; bound = rw e (cell_in_bank_below a.b a.row a.column c.requires.1) }

@@ -13,8 +13,8 @@ overflow_add-d c = omega (arith, div-mul-le_self c.args.start c.args.n)
 
 pub returns-then-d-start : goal.returns-then-d-start
 returns-then-d-start c =
-    (rw (lt-ltb _ _ c.if-d-start.true), omega (arith, div-mul-le_self c.args.start c.args.n))
+    record { value = rw (lt-ltb _ _ c.if-d-start.true); bound = omega (arith, div-mul-le_self c.args.start c.args.n) }
 
 pub returns-else-d-start : goal.returns-else-d-start
 returns-else-d-start c =
-    (rw (le-ltb _ _ c.if-d-start.false), omega (arith, div-mul-le_self c.args.start c.args.n))
+    record { value = rw (le-ltb _ _ c.if-d-start.false); bound = omega (arith, div-mul-le_self c.args.start c.args.n) }

@@ -28,7 +28,7 @@ pub bounds-out-comma : goal.bounds-out-comma
 bounds-out-comma c =
     let out = c.args.out.now in
     let k = c.write_kinds-comma in
-    let same : length k.new.1.1.0 ≡ length out = c.out-1.given ∙ length-sets out 0 start in
+    let same : length k.new.out ≡ length out = c.out-1.given ∙ length-sets out 0 start in
     let few = k.ensures.2 in
     omega arith
 
@@ -36,7 +36,7 @@ pub write_pairs-requires : goal.write_pairs-requires
 write_pairs-requires c =
     let out = c.args.out.now in
     let k = c.write_kinds-comma in
-    let same : length k.new.1.1.0 ≡ length out = c.out-1.given ∙ length-sets out 0 start in
+    let same : length k.new.out ≡ length out = c.out-1.given ∙ length-sets out 0 start in
     let few = k.ensures.2 in
     simp length-set (omega arith)
 
@@ -45,7 +45,7 @@ bounds-out-end c =
     let a = c.args in
     let k = c.write_kinds-comma in
     let p = c.write_pairs in
-    let same : length p.new.1.0 ≡ length a.out.now = c.out-2-1.given ∙ length-set k.new.1.1.0 k.result 0x2C ∙ c.out-1.given ∙ length-sets a.out.now 0 start in
+    let same : length p.new.out ≡ length a.out.now = c.out-2-1.given ∙ length-set k.new.out k.result 0x2C ∙ c.out-1.given ∙ length-sets a.out.now 0 start in
     let few = k.ensures.2 in
     omega arith
 
@@ -54,7 +54,7 @@ shape_of-out c =
     let a = c.args in
     let k = c.write_kinds-comma in
     let p = c.write_pairs in
-    let same : length p.new.1.0 ≡ length a.out.now = c.out-2-1.given ∙ length-set k.new.1.1.0 k.result 0x2C ∙ c.out-1.given ∙ length-sets a.out.now 0 start in
+    let same : length p.new.out ≡ length a.out.now = c.out-2-1.given ∙ length-set k.new.out k.result 0x2C ∙ c.out-1.given ∙ length-sets a.out.now 0 start in
     simp length-set same
 
 pub returns : goal.returns
@@ -62,14 +62,14 @@ returns c =
     let a = c.args in
     let k = c.write_kinds-comma in
     let p = c.write_pairs in
-    let same : length p.new.1.0 ≡ length a.out.now = c.out-2-1.given ∙ length-set k.new.1.1.0 k.result 0x2C ∙ c.out-1.given ∙ length-sets a.out.now 0 start in
+    let same : length p.new.out ≡ length a.out.now = c.out-2-1.given ∙ length-set k.new.out k.result 0x2C ∙ c.out-1.given ∙ length-sets a.out.now 0 start in
     let t = start ++ kinds_text (kinds_in (take a.count a.parts)) in
     let pairs = hex_pairs a.bytes.now in
     let n : k.result ≡ length t = omega (arith, k.ensures.0) in
-    let kinds : k.new.1.1.0 ≡ sets a.out.now 0 t = k.ensures.1 ∙ sets_append a.out.now start (kinds_text (kinds_in (take a.count a.parts))) 0 in
-    let comma : sets k.new.1.1.0 k.result (0x2C ∷ []) ≡ sets a.out.now 0 (t ++ 0x2C ∷ []) = sets_more a.out.now k.new.1.1.0 t (0x2C ∷ []) k.result n kinds in
+    let kinds : k.new.out ≡ sets a.out.now 0 t = k.ensures.1 ∙ sets_append a.out.now start (kinds_text (kinds_in (take a.count a.parts))) 0 in
+    let comma : sets k.new.out k.result (0x2C ∷ []) ≡ sets a.out.now 0 (t ++ 0x2C ∷ []) = sets_more a.out.now k.new.out t (0x2C ∷ []) k.result n kinds in
     let m : k.result + 1 ≡ length (t ++ 0x2C ∷ []) = simp length-append (omega arith) in
-    let all : p.new.1.0 ≡ sets a.out.now 0 (t ++ 0x2C ∷ pairs) = p.ensures ∙ sets_more a.out.now (sets k.new.1.1.0 k.result (0x2C ∷ [])) (t ++ 0x2C ∷ []) pairs (k.result + 1) m comma ∙ ap (sets a.out.now 0) (append_snoc t 0x2C pairs) in
+    let all : p.new.out ≡ sets a.out.now 0 (t ++ 0x2C ∷ pairs) = p.ensures ∙ sets_more a.out.now (sets k.new.out k.result (0x2C ∷ [])) (t ++ 0x2C ∷ []) pairs (k.result + 1) m comma ∙ ap (sets a.out.now 0) (append_snoc t 0x2C pairs) in
     let end : k.result + 1 + 2 * length a.bytes.now ≡ length (t ++ 0x2C ∷ pairs) = simp length-append (omega (arith, pairs_length a.bytes.now)) in
     let few = k.ensures.2 in
-    line_sets a.out.now p.new.1.0 (t ++ 0x2C ∷ pairs) (0x0A ∷ []) (k.result + 1 + 2 * length a.bytes.now) (k.result + 1 + 2 * length a.bytes.now + 1) end refl all (omega arith)
+    line_sets a.out.now p.new.out (t ++ 0x2C ∷ pairs) (0x0A ∷ []) (k.result + 1 + 2 * length a.bytes.now) (k.result + 1 + 2 * length a.bytes.now + 1) end refl all (omega arith)

@@ -26,7 +26,7 @@ pub bounds-out-end : goal.bounds-out-end
 bounds-out-end c =
     let a = c.args in
     let k = c.write_decimal-end in
-    let same : length k.new.1.0 ≡ length a.out.now = c.out-1.given ∙ length-sets a.out.now 0 (start a.letter) in
+    let same : length k.new.out ≡ length a.out.now = c.out-1.given ∙ length-sets a.out.now 0 (start a.letter) in
     let few = k.ensures.2 in
     omega arith
 
@@ -42,4 +42,4 @@ returns c =
     let k = c.write_decimal-end in
     let t = decimal a.number in
     let few = k.ensures.2 in
-    line_sets a.out.now k.new.1.0 (start a.letter ++ t) (0x0A ∷ []) k.result (k.result + 1) (omega (arith, k.ensures.0)) refl (k.ensures.1 ∙ sets_append a.out.now (start a.letter) t 0) (omega arith)
+    line_sets a.out.now k.new.out (start a.letter ++ t) (0x0A ∷ []) k.result (k.result + 1) (omega (arith, k.ensures.0)) refl (k.ensures.1 ∙ sets_append a.out.now (start a.letter) t 0) (omega arith)

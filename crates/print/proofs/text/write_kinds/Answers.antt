@@ -24,13 +24,13 @@ loop-i-preserved c =
     let at = c.loop-i in
     let k = c.write_bit-at in
     let letter = c.kind_letter in
-    let four : length a.t1 ≡ 4 = search rules in
+    let four : length a.parts ≡ 4 = search rules in
     let few = k.ensures.2 in (
       omega arith,
       at.invariant.1,
       c.out-1.given ∙ length-set (set at.out at.at 0x2C) (at.at + 1) letter.result ∙ length-set at.out at.at 0x2C ∙ at.invariant.2,
       omega arith,
-      part_written a.out.now at.out k.new.1.0 3 at.at k.result a.t1 at.i _ (omega arith) at.invariant.4 letter.result letter.ensures k.ensures.0 k.ensures.1,
+      part_written a.out.now at.out k.new.out 3 at.at k.result a.parts at.i _ (omega arith) at.invariant.4 letter.result letter.ensures k.ensures.0 k.ensures.1,
     )
 
 pub shape_of-out : goal.shape_of-out
@@ -41,7 +41,7 @@ returns c =
     let at = c.loop-i in
     let a = c.args in
     let n = c.least-n in
-    let four : length a.t1 ≡ 4 = search rules in
+    let four : length a.parts ≡ 4 = search rules in
     let i : at.i ≡ n.result = omega arith in
-    let same : take at.i a.t1 ≡ take a.count a.t1 = rw i (take_least a.count n.result a.t1 (rw four n.ensures)) in
+    let same : take at.i a.parts ≡ take a.count a.parts = rw i (take_least a.count n.result a.parts (rw four n.ensures)) in
     (rw (← same) at.invariant.4.end, rw (← same) at.invariant.4.bytes, omega arith)
