@@ -14,6 +14,6 @@ returns c =
     let a = c.args in
     let m = c.flip-called in
     let p = c.verdict_line in
-    let cells = m.new.1.0 in
-    line_printed p.result a.out.now p.new.1.1.0 _ (state (record_of a.registers.now) cells) _ (omega arith) p.ensures
+    let cells = m.new.cells in
+    line_printed p.result a.out.now p.new.out _ (state (record_of a.registers.now) cells) _ (omega arith) p.ensures
     (flip_line columns (state (record_of a.registers.now) a.cells.now) a.address a.bit m.result.answer m.result.registers cells _ m.ensures (flip_text [] m.result.answer a.address a.bit))

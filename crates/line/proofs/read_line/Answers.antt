@@ -36,12 +36,12 @@ slice_bounds-read-end c =
 pub slice_bounds-buffer-end-2 : goal.slice_bounds-buffer-end-2
 slice_bounds-buffer-end-2 c =
     let n = c.buffer_length-n in
-    part-within n.result c.read-called.new.1.1.1.0 (c.buffer-2-1.given ∙ zeros-part n.result (buffer_fits c.args.count n.result n.ensures))
+    part-within n.result c.read-called.new.buffer (c.buffer-2-1.given ∙ zeros-part n.result (buffer_fits c.args.count n.result n.ensures))
 
 pub slice_bounds-read-end-2 : goal.slice_bounds-read-end-2
 slice_bounds-read-end-2 c =
     let n = c.buffer_length-n in
-    let b = c.read-called.new.1.1.1.0 in
+    let b = c.read-called.new.buffer in
     sym (length-take-le n.result (b ++ drop n.result zeros) (part-within n.result b (c.buffer-2-1.given ∙ zeros-part n.result (buffer_fits c.args.count n.result n.ensures))))
 
 pub returns : goal.returns
@@ -50,10 +50,10 @@ returns c =
     let n = c.buffer_length-n in
     let m = c.read-called in
     let p = c.read in
-    let b = m.new.1.1.1.0 in
+    let b = m.new.buffer in
     let st = state m.result.registers a.cells.now in
     let part = zeros-part n.result (buffer_fits a.count n.result n.ensures) in
     let size : length b ≡ n.result = c.buffer-2-1.given ∙ part in
-    line_printed p.result a.out.now p.new.1.1.0 _ st _ (omega arith) p.ensures
+    line_printed p.result a.out.now p.new.out _ st _ (omega arith) p.ensures
     (ap (λ (l : List ℕ). (read_line m.result.answer (take 8 l), st)) (take_at b _ n.result size)
     ∙ read_line_lem columns (state (record_of a.registers.now) a.cells.now) a.address a.count n.result m.result.answer st b (take n.result zeros) n.ensures part size m.ensures)

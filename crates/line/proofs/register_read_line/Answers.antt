@@ -12,4 +12,4 @@ returns c =
     let a = c.args in
     let r = c.read in
     let p = c.register_read in
-    λ cells. line_printed p.result a.out.now p.new.1.0 _ (state (record_of a.registers.now) cells) _ (omega arith) p.ensures (register_read_line columns (record_of a.registers.now) cells a.offset r.result r.ensures)
+    λ cells. line_printed p.result a.out.now p.new.out _ (state (record_of a.registers.now) cells) _ (omega arith) p.ensures (register_read_line columns (record_of a.registers.now) cells a.offset r.result r.ensures)

@@ -12,4 +12,4 @@ returns c =
     let a = c.args in
     let w = c.write-written in
     let p = c.verdict_line in
-    λ cells. line_printed p.result a.out.now p.new.1.1.0 _ (state w.result.registers cells) _ (omega arith) p.ensures (register_write_line columns (record_of a.registers.now) cells a.offset a.value w.result w.ensures)
+    λ cells. line_printed p.result a.out.now p.new.out _ (state w.result.registers cells) _ (omega arith) p.ensures (register_write_line columns (record_of a.registers.now) cells a.offset a.value w.result w.ensures)

@@ -33,7 +33,7 @@ pub returns-in-ReadRegister : goal.returns-in-ReadRegister
 unfolding or_malformed
 returns-in-ReadRegister c =
     let a = c.args in
-    c.register_read_line.ensures a.cells.now ∙ asked_line columns (state (record_of a.registers.now) a.cells.now) a.out.now a.bytes.now _ _ c.request2.given.1
+    c.register_read_line.ensures a.cells.now ∙ asked_line columns (state (record_of a.registers.now) a.cells.now) a.out.now a.bytes.now _ _ c.in-ReadRegister.is
 
 pub returns-in-Write : goal.returns-in-Write
 unfolding or_malformed
@@ -45,13 +45,13 @@ pub returns-in-Read : goal.returns-in-Read
 unfolding or_malformed
 returns-in-Read c =
     let a = c.args in
-    c.read_line.ensures ∙ asked_line columns (state (record_of a.registers.now) a.cells.now) a.out.now a.bytes.now _ _ c.request4.given.1
+    c.read_line.ensures ∙ asked_line columns (state (record_of a.registers.now) a.cells.now) a.out.now a.bytes.now _ _ c.in-Read.is
 
 pub returns-in-Flip : goal.returns-in-Flip
 unfolding or_malformed
 returns-in-Flip c =
     let a = c.args in
-    c.flip_line.ensures ∙ asked_line columns (state (record_of a.registers.now) a.cells.now) a.out.now a.bytes.now _ _ c.request5.given.1
+    c.flip_line.ensures ∙ asked_line columns (state (record_of a.registers.now) a.cells.now) a.out.now a.bytes.now _ _ c.in-Flip.is
 
 pub returns-in-Scrub : goal.returns-in-Scrub
 unfolding or_malformed

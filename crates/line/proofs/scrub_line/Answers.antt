@@ -15,6 +15,6 @@ returns c =
     let a = c.args in
     let m = c.scrub-called in
     let p = c.kinds in
-    let st = state m.result.registers m.new.1.0 in
-    line_printed p.result a.out.now p.new.1.1.0 _ st _ (omega arith) p.ensures
+    let st = state m.result.registers m.new.cells in
+    line_printed p.result a.out.now p.new.out _ st _ (omega arith) p.ensures
     (memory_line columns (state (record_of a.registers.now) a.cells.now) (scrub a.address) m.result.answer st [] [] _ m.ensures (scrub_text [] m.result.answer a.address))
