@@ -31,7 +31,7 @@ copy-requires-2 c =
     let few = least_le args.len most_carried n.result n.ensures in
     let rest = least_le (most_carried - n.result) (length args.part.now) more.result more.ensures in
     let start : length args.start ≡ most_carried = search rules in
-    let size : length c.copy.new.1.1.0 ≡ most_carried =
+    let size : length c.copy.new.dst ≡ most_carried =
     ap length c.copy.ensures ∙ length-paste (zeros most_carried) 0 args.start n.result (omega (arith, few)) (omega arith) in
     (rest.1, omega arith)
 

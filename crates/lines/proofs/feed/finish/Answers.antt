@@ -20,7 +20,7 @@ returns-then-carry-eq0 c =
 pub returns : goal.returns
 returns c =
     let size : length c.args.kept.carry.bytes ≡ most_carried =
-    search (rules, c.well-formed) in
+    search (rules, c.well_formed) in
     let kept = c.args.kept in
     let some : 0 < length (carried_of kept.carry) = simp length-take (omega arith) in
     ap leaves_of c.step-stepped.ensures ∙ end_step columns kept c.args.cells.now c.args.out.now some

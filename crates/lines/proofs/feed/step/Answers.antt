@@ -35,7 +35,7 @@ slice_bounds-joined-end c =
 pub returns-then-end-chunk : goal.returns-then-end-chunk
 returns-then-end-chunk c =
     let size : length c.args.kept.carry.bytes ≡ most_carried =
-    search (rules, c.well-formed) in
+    search (rules, c.well_formed) in
     let a = c.args in
     ap (λ (x : Carry). (true, 0, (record { registers = a.kept.registers; carry = x }, a.cells.now), a.out.now)) c.joined-first.ensures
     ∙ step_plain columns a.kept a.cells.now a.chunk.now a.out.now c.line_end-end.result (omega arith) c.line_end-end.ensures (few a.kept.carry size) c.if-end-chunk.true
@@ -74,15 +74,15 @@ pub returns : goal.returns
 unfolding LinesReached
 returns c =
     let size : length c.args.kept.carry.bytes ≡ most_carried =
-    search (rules, c.well-formed) in
+    search (rules, c.well_formed) in
     let a = c.args in
     let all = c.whole_lines-all in
     let from = all.result.from in
     let enough = c.if-out-chunk.false in
-    let reached = all.ensures.0 (carried_of a.kept.carry) (carried_is c.joined-first.result _ c.joined-first.ensures) in
+    let reached = all.ensures.lines_reached (carried_of a.kept.carry) (carried_is c.joined-first.result _ c.joined-first.ensures) in
     let left : take (length a.chunk.now - from) (drop from a.chunk.now) ≡ drop from a.chunk.now =
     take_all (length a.chunk.now - from) (drop from a.chunk.now) (omega (arith, length-drop from a.chunk.now)) in
-    ap (λ (x : Carry). (true, all.result.at, (record { registers = record_of all.new.0; carry = x }, all.new.1.0), all.new.1.1.1.1.1.0))
+    ap (λ (x : Carry). (true, all.result.at, (record { registers = record_of all.new.registers; carry = x }, all.new.cells), all.new.out))
     (c.joined-rest.ensures ∙ ap (λ (l : List ℕ). carry_of (take most_carried l)) left)
     ∙ step_lines columns a.kept a.cells.now a.chunk.now a.out.now c.line_end-end.result (omega arith) c.line_end-end.ensures (few a.kept.carry size)
-    (state (record_of all.new.0) all.new.1.0) all.new.1.1.1.1.1.0 from all.result.at reached all.ensures.1
+    (state (record_of all.new.registers) all.new.cells) all.new.out from all.result.at reached all.ensures.chunk_value

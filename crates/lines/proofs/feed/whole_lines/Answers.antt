@@ -54,8 +54,8 @@ overflow_add-n c =
     let at = c.loop-end in
     let from = c.line_from-line in
     let x = c.execute_in_place-printed in
-    let fits = line_fits columns (state (record_of a.registers.now) a.cells.now) a.first.now a.chunk.now a.stop a.out.now (state (record_of at.registers) at.cells) at.i at.end at.out at.n at.invariant.0 from.result.now from.ensures x.result x.new.1.1.1.0 (state (record_of x.new.0) x.new.1.0) x.ensures in
-    let known : length a.out.now < 2 ^ 64 = search (rules, c.well-formed) in
+    let fits = line_fits columns (state (record_of a.registers.now) a.cells.now) a.first.now a.chunk.now a.stop a.out.now (state (record_of at.registers) at.cells) at.i at.end at.out at.n at.invariant.0 from.result.now from.ensures x.result x.new.out (state (record_of x.new.registers) x.new.cells) x.ensures in
+    let known : length a.out.now < 2 ^ 64 = search (rules, c.well_formed) in
     let sum : at.n + x.result < 2 ^ 64 = omega arith in
     record { fits = sum }
 
@@ -83,7 +83,7 @@ loop-end-preserved c =
     let e = c.line_end-end in
     let more = at.invariant.0.more in
     let within = end_within a.chunk.now (at.end + 1) e.result (omega arith) e.ensures in (
-      before_next columns (state (record_of a.registers.now) a.cells.now) a.first.now a.chunk.now a.stop a.out.now (state (record_of at.registers) at.cells) at.i at.end at.out at.n at.invariant.0 from.result.now from.ensures x.result x.new.1.1.1.0 (state (record_of x.new.0) x.new.1.0) x.ensures e.result e.ensures (omega arith),
+      before_next columns (state (record_of a.registers.now) a.cells.now) a.first.now a.chunk.now a.stop a.out.now (state (record_of at.registers) at.cells) at.i at.end at.out at.n at.invariant.0 from.result.now from.ensures x.result x.new.out (state (record_of x.new.registers) x.new.cells) x.ensures e.result e.ensures (omega arith),
       c.cells-1.given ∙ at.invariant.1,
     )
 
@@ -97,7 +97,7 @@ shape_of-out c =
     let at = c.loop-end in
     let from = c.line_from-line in
     let x = c.execute_in_place-printed in
-    same_size columns (state (record_of a.registers.now) a.cells.now) a.first.now a.chunk.now a.stop a.out.now (state (record_of at.registers) at.cells) at.i at.end at.out at.n at.invariant.0 from.result.now from.ensures x.result x.new.1.1.1.0 (state (record_of x.new.0) x.new.1.0) x.ensures
+    same_size columns (state (record_of a.registers.now) a.cells.now) a.first.now a.chunk.now a.stop a.out.now (state (record_of at.registers) at.cells) at.i at.end at.out at.n at.invariant.0 from.result.now from.ensures x.result x.new.out (state (record_of x.new.registers) x.new.cells) x.ensures
 
 pub returns : goal.returns
 returns c =
@@ -107,4 +107,4 @@ returns c =
     let x = c.execute_in_place-printed in
     let e = c.line_end-end in
     let more = at.invariant.0.more in
-    (lines_reached columns (state (record_of a.registers.now) a.cells.now) a.first.now a.chunk.now a.stop a.out.now (state (record_of at.registers) at.cells) at.i at.end at.out at.n at.invariant.0 from.result.now from.ensures x.result x.new.1.1.1.0 (state (record_of x.new.0) x.new.1.0) x.ensures, omega (arith, e.ensures))
+    record { lines_reached = lines_reached columns (state (record_of a.registers.now) a.cells.now) a.first.now a.chunk.now a.stop a.out.now (state (record_of at.registers) at.cells) at.i at.end at.out at.n at.invariant.0 from.result.now from.ensures x.result x.new.out (state (record_of x.new.registers) x.new.cells) x.ensures; chunk_value = omega (arith, e.ensures) }
