@@ -1,3 +1,2 @@
 // The worked examples that are proved of the definitions; no code.
 #![tactic(auto)]
-

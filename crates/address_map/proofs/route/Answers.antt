@@ -1,5 +1,4 @@
 -- A route is its number.
-use Rattle.std.proofs.Common.{rules}
 use Rattle.address_map.proofs.route.Goals as goal
 
 pub returns : goal.returns

@@ -1,9 +1,7 @@
 -- The loop's invariant: the first n banks are the same (`every_more`); one that differs ends it (`every_stops`). If both records are ready, the tests
 -- of the eight banks decide (`records_alike`).
 use borrow.Author.Rules.{rules}
-use borrow.Author.Tests.{not-true, not-false}
-use Prim.Native.Nat.{ℕ, ◌-◌, ◌≤◌, ◌<◌}
-use mathlib.Core.Bool.{true}
+use Prim.Native.Nat.{ℕ, ◌<◌}
 use mathlib.Core.Path.{◌≡◌, refl, sym, ap, ◌∙◌}
 use native.Mathlib.Omega.{arith}
 use mir.Syntax.{w8}

@@ -1,7 +1,6 @@
 -- Two enabled banks are compared by their parts, as `both_on` has it; otherwise `same_bank` is that both are disabled.
 use Rattle.alike.specs.CodeMegabyte.{same_bank}
 use Rattle.alike.proofs.BankLaws.{both_on}
-use borrow.Author.Rules.{rules}
 use Rattle.alike.proofs.is_same_bank.Goals as goal
 
 pub returns-then-b-c : goal.returns-then-b-c

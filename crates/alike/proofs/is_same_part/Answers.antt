@@ -3,7 +3,6 @@ use Prim.Native.Nat.{◌*◌, ◌%◌, ◌^◌}
 use mathlib.Core.Path.{◌≡◌}
 use native.Mathlib.Omega.{arith}
 use Rattle.alike.specs.CodeMegabyte.{same_part}
-use borrow.Author.Rules.{rules}
 use Rattle.alike.proofs.is_same_part.Goals as goal
 
 pub returns : goal.returns

@@ -5,7 +5,6 @@ use lib.Bits.{and_mask}
 use lib.Pow.{pow_pos}
 use Rattle.basics.proofs.Shifts.{one_shl}
 use Rattle.banks.specs.Map.{cells, cell_in_bank, row_of}
-use borrow.Author.Rules.{rules}
 use Rattle.alike.proofs.row.Goals as goal
 
 pub overflow_sub-result : goal.overflow_sub-result

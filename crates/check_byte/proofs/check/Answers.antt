@@ -3,7 +3,6 @@ use mathlib.Core.Path.{ap, ◌∙◌}
 use native.Mathlib.Omega.{arith}
 use Rattle.check_byte.specs.CodeFold.{laid_over, folded_check}
 use Rattle.check_byte.proofs.FoldLaws.{fold_is_check}
-use borrow.Author.Rules.{rules}
 use Rattle.check_byte.proofs.check.Goals as goal
 
 pub returns : goal.returns

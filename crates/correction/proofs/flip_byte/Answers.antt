@@ -1,7 +1,6 @@
 -- ECC-3: above 71 there is no flip bit, and below it is inverted by its mask.
 use borrow.Author.Tests.{lt-ltb, le-ltb}
 use native.Mathlib.Omega.{arith}
-use borrow.Author.Rules.{rules}
 use Rattle.correction.proofs.flip_byte.Goals as goal
 
 pub returns-then-b-gt71 : goal.returns-then-b-gt71

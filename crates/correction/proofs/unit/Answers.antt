@@ -1,6 +1,5 @@
 -- A one that is shifted within the byte is a power of two.
 use native.Mathlib.Omega.{arith}
-use borrow.Author.Rules.{rules}
 use Rattle.basics.proofs.Shifts.{one_shl}
 use Rattle.correction.proofs.unit.Goals as goal
 

@@ -5,7 +5,6 @@ use native.Mathlib.Omega.{arith}
 use lib.Seq.{set_out}
 use Rattle.ecc.specs.CheckCode.{flip_bit}
 use Rattle.ecc.proofs.DoublewordLaws.{number_length, number_flip}
-use borrow.Author.Rules.{rules}
 use Rattle.correction.proofs.with_bit_flipped.Goals as goal
 
 pub returns-then-b-gt63 : goal.returns-then-b-gt63

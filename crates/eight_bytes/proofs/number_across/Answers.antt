@@ -5,7 +5,6 @@ use mathlib.Core.Path.{◌≡◌, sym}
 use mathlib.Core.List.{append-nil}
 use Rattle.eight_bytes.specs.CodeNumber.{eight_across}
 use Rattle.eight_bytes.proofs.AcrossLaws.{across_fits, across_bytes}
-use borrow.Author.Rules.{rules}
 use Rattle.eight_bytes.proofs.number_across.Goals as goal
 
 pub returns-then-bits-eq0 : goal.returns-then-bits-eq0

@@ -2,7 +2,6 @@
 use native.Mathlib.Omega.{arith}
 use mathlib.Core.Path.{◌∙◌}
 use Rattle.eight_bytes.proofs.ByteLaws.{eight_none, eight_read}
-use borrow.Author.Rules.{rules}
 use Rattle.eight_bytes.proofs.number_at.Goals as goal
 
 pub returns-then-bytes-lt8 : goal.returns-then-bytes-lt8

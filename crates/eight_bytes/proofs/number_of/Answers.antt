@@ -4,7 +4,6 @@ use mathlib.Core.Path.{◌≡◌}
 use mathlib.Core.List.{List, [], ◌∷◌}
 use Prim.Native.Nat.{ℕ, ◌+◌, ◌*◌}
 use Rattle.eight_bytes.proofs.ByteLaws.{number, number_bytes}
-use borrow.Author.Rules.{rules}
 use Rattle.eight_bytes.proofs.number_of.Goals as goal
 
 pub returns : goal.returns

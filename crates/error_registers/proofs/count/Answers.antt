@@ -1,7 +1,6 @@
 -- Below 255 the counter rises (`lt-ltb`), and `is_triggered` decides between the cases of `rose`; at 255 nothing is stored (`le-ltb`).
 use borrow.Author.Tests.{lt-ltb, le-ltb}
 use Rattle.error_registers.specs.Errors.{counted, rose}
-use borrow.Author.Rules.{rules}
 use Rattle.error_registers.proofs.count.Goals as goal
 
 pub returns-then-is_triggered : goal.returns-then-is_triggered

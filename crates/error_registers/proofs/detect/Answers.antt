@@ -2,7 +2,6 @@
 use native.Mathlib.Omega.{arith}
 use Rattle.basics.proofs.Shifts.{one_shl}
 use Rattle.error_registers.specs.Errors.{detected}
-use borrow.Author.Rules.{rules}
 use Rattle.error_registers.proofs.detect.Goals as goal
 
 pub returns-then-first : goal.returns-then-first

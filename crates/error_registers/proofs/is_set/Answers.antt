@@ -5,7 +5,6 @@ use lib.Dec.{eqb}
 use lib.ListN.{get_or}
 use mathlib.Core.Path.{ap}
 use Rattle.error_registers.specs.Errors.{bit_set}
-use borrow.Author.Rules.{rules}
 use Rattle.error_registers.proofs.is_set.Goals as goal
 
 pub returns : goal.returns

@@ -1,7 +1,6 @@
 -- The four stores are those of `with_error_address`, from the lowest byte of the address on.
 use mathlib.Core.Path.{refl}
 use Rattle.error_registers.specs.Errors.{with_error_address}
-use borrow.Author.Rules.{rules}
 use Rattle.error_registers.proofs.put_address.Goals as goal
 
 pub returns : goal.returns

@@ -1,5 +1,4 @@
 -- The outcome's number is tested in the order in which `kind_by` goes by it; each arm is then the definition's clause for its kind.
-use borrow.Author.Rules.{rules}
 use borrow.Author.Tests.{lt-ltb, le-ltb, ne_eqb}
 use lib.Dec.{eqb}
 use native.Mathlib.Omega.{arith}

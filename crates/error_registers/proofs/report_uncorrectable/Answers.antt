@@ -1,5 +1,4 @@
 -- ERR-4: the enable bit decides, as in the definition.
-use borrow.Author.Rules.{rules}
 use Rattle.error_registers.specs.Errors.{reported}
 use Rattle.error_registers.proofs.report_uncorrectable.Goals as goal
 

@@ -1,7 +1,6 @@
 -- Bank n of the set-up, in the two cases of `bank_on_lem` and `bank_off_lem`.
 use mathlib.Core.Path.{sym, ◌∙◌}
 use Rattle.address_map.proofs.PassLaws.{bank_on_lem, bank_off_lem, enabled_below}
-use borrow.Author.Rules.{rules}
 use Rattle.judging.proofs.bank_in.Goals as goal
 
 pub enabled_bank-requires : goal.enabled_bank-requires

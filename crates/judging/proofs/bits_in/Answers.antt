@@ -9,7 +9,6 @@ use Rattle.address_map.specs.CodeSelection.{megabyte_bits}
 use Rattle.address_map.proofs.SetupLaws.{decoded_enabled}
 use Rattle.address_map.proofs.SizeLaws.{few_bits}
 use Rattle.judging.proofs.DecodingLaws.{sound_bits, faulty_known, faulty_bits}
-use borrow.Author.Rules.{rules}
 use Rattle.judging.proofs.bits_in.Goals as goal
 
 pub returns-then-bits-lt-FAULTY : goal.returns-then-bits-lt-FAULTY

@@ -7,7 +7,6 @@ use Rattle.address_map.specs.CodeSelection.{megabyte_bits}
 use Rattle.address_map.proofs.SetupLaws.{code_below, decoded_enabled}
 use Rattle.address_map.proofs.SizeLaws.{few_bits, rows_by_bits, columns_are, rows_left}
 use Rattle.judging.proofs.DecodingLaws.{bank_parts}
-use borrow.Author.Rules.{rules}
 use Rattle.judging.proofs.enabled_bank.Goals as goal
 
 pub returns : goal.returns

@@ -1,6 +1,5 @@
 -- The two cases of `fault_of`.
 use Rattle.banks.specs.Judge.{fault_of}
-use borrow.Author.Rules.{rules}
 use Rattle.judging.proofs.fault.Goals as goal
 
 pub returns-then-is_inverted : goal.returns-then-is_inverted

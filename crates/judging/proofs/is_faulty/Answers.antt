@@ -4,7 +4,6 @@ use mathlib.Core.Path.{◌≡◌, sym, ◌∙◌}
 use native.Mathlib.Omega.{arith}
 use Rattle.address_map.specs.CodeFields.{setup_by}
 use Rattle.address_map.proofs.PassLaws.{off_faulty, enabled_below, faulty_by}
-use borrow.Author.Rules.{rules}
 use Rattle.judging.proofs.is_faulty.Goals as goal
 
 pub returns-then-is_enabled : goal.returns-then-is_enabled

@@ -1,11 +1,8 @@
 use Prim.Native.Nat.{◌-◌}
-use mathlib.Core.Path.{refl}
-use native.Mathlib.Omega.{arith}
-use Rattle.basics.proofs.RangeLaws.{Looked, hit, skip, none}
+use Rattle.basics.proofs.RangeLaws.{Looked}
 use Rattle.banks.specs.Setup.{bank}
-use Rattle.banks.specs.Judge.{lowest, is_enabled}
+use Rattle.banks.specs.Judge.{is_enabled}
 use Rattle.address_map.specs.CodeFields.{setup_by}
-use borrow.Author.Rules.{rules}
 use Rattle.judging.proofs.lowest_enabled.Given as goal
 
 abbrev pub invariant-loop-n : goal.invariant-loop-n

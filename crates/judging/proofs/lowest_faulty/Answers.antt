@@ -1,12 +1,8 @@
 -- A search from bank 0 on, by `hit`, `skip` and `none` of RangeLaws.
-use Prim.Native.Nat.{◌-◌}
 use mathlib.Core.Path.{refl}
 use native.Mathlib.Omega.{arith}
-use Rattle.basics.proofs.RangeLaws.{Looked, hit, skip, none}
-use Rattle.banks.specs.Setup.{bank}
-use Rattle.banks.specs.Judge.{lowest, faulty}
-use Rattle.address_map.specs.CodeFields.{setup_by}
-use borrow.Author.Rules.{rules}
+use Rattle.basics.proofs.RangeLaws.{hit, skip, none}
+use Rattle.banks.specs.Judge.{lowest}
 use Rattle.judging.proofs.lowest_faulty.Goals as goal
 
 pub loop-n-init : goal.loop-n-init

@@ -1,11 +1,8 @@
 -- A search from bank 0 on, by `hit`, `skip` and `none` of RangeLaws.
-use Prim.Native.Nat.{◌-◌}
 use mathlib.Core.Path.{refl}
 use native.Mathlib.Omega.{arith}
-use Rattle.basics.proofs.RangeLaws.{Looked, hit, skip, none}
-use Rattle.banks.specs.Judge.{meets_lower, lowest_meeting}
-use Rattle.address_map.specs.CodeFields.{setup_by}
-use borrow.Author.Rules.{rules}
+use Rattle.basics.proofs.RangeLaws.{hit, skip, none}
+use Rattle.banks.specs.Judge.{lowest_meeting}
 use Rattle.judging.proofs.lowest_meeting.Goals as goal
 
 pub loop-n-init : goal.loop-n-init

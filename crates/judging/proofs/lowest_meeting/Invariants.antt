@@ -1,10 +1,7 @@
 use Prim.Native.Nat.{◌-◌}
-use mathlib.Core.Path.{refl}
-use native.Mathlib.Omega.{arith}
-use Rattle.basics.proofs.RangeLaws.{Looked, hit, skip, none}
-use Rattle.banks.specs.Judge.{meets_lower, lowest_meeting}
+use Rattle.basics.proofs.RangeLaws.{Looked}
+use Rattle.banks.specs.Judge.{meets_lower}
 use Rattle.address_map.specs.CodeFields.{setup_by}
-use borrow.Author.Rules.{rules}
 use Rattle.judging.proofs.lowest_meeting.Given as goal
 
 abbrev pub invariant-loop-n : goal.invariant-loop-n

@@ -1,7 +1,6 @@
 -- The chain of `judged`: 11, then 12 or 13, then 14, each by its search.
 use borrow.Author.Tests.{lt-ltb, le-ltb, le-leb, lt-leb}
 use Rattle.banks.specs.Judge.{judged}
-use borrow.Author.Rules.{rules}
 use Rattle.judging.proofs.verdict.Goals as goal
 
 pub returns-then-lowest_enabled-ge8 : goal.returns-then-lowest_enabled-ge8

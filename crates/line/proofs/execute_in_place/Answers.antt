@@ -14,7 +14,6 @@ use Rattle.parser.specs.CodeParsed.{parsed_as}
 use Rattle.parser.specs.Format.{parse}
 use Rattle.parser.proofs.ParsedLaws.{parsed_fits}
 use Rattle.line.proofs.LineLaws.{no_room, parsed_line}
-use borrow.Author.Rules.{rules}
 use Rattle.line.proofs.execute_in_place.Goals as goal
 
 count_fits : (line : List ℕ) (p : Parsed) → p ≡ parsed_as (parse line) → p.count ≤ length p.bytes

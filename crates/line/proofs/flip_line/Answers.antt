@@ -6,7 +6,6 @@ use Rattle.calls.specs.State.{state}
 use mathlib.Core.List.{[]}
 use Rattle.print.proofs.PrintLaws.{flip_text}
 use Rattle.line.proofs.LineLaws.{line_printed, flip_line}
-use borrow.Author.Rules.{rules}
 use Rattle.line.proofs.flip_line.Goals as goal
 
 pub returns : goal.returns

@@ -6,7 +6,6 @@ use Prim.Native.Nat.{ℕ}
 use Rattle.print.specs.Output.{malformed_text}
 use Rattle.print.specs.CodePrinted.{print_into}
 use Rattle.print.proofs.PrintLaws.{print_start, malformed_text_lem}
-use borrow.Author.Rules.{rules}
 use Rattle.line.proofs.malformed_line.Goals as goal
 
 pub returns : goal.returns

@@ -11,7 +11,6 @@ use Rattle.registers.specs.Record.{record_of}
 use Rattle.calls.specs.State.{state}
 use Rattle.print.specs.CodePrinted.{read_line}
 use Rattle.line.proofs.LineLaws.{line_printed, buffer_fits, read_line_lem}
-use borrow.Author.Rules.{rules}
 use Rattle.line.proofs.read_line.Goals as goal
 
 -- the lent buffer at first

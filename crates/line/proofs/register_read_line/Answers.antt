@@ -4,7 +4,6 @@ use Rattle.ecc.specs.Columns.{columns}
 use Rattle.registers.specs.Record.{record_of}
 use Rattle.calls.specs.State.{state}
 use Rattle.line.proofs.LineLaws.{line_printed, register_read_line}
-use borrow.Author.Rules.{rules}
 use Rattle.line.proofs.register_read_line.Goals as goal
 
 pub returns : goal.returns

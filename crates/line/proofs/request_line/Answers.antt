@@ -9,7 +9,6 @@ use Rattle.calls.specs.State.{State, state}
 use Rattle.line.specs.Line.{or_malformed}
 use Rattle.line.specs.CodeLinePrinted.{LineEffect}
 use Rattle.line.proofs.LineLaws.{asked_line}
-use borrow.Author.Rules.{rules}
 use Rattle.line.proofs.request_line.Goals as goal
 
 -- a line that changes neither record nor cells

@@ -7,7 +7,6 @@ use mathlib.Core.List.{[]}
 use Rattle.calls.specs.Calls.{scrub}
 use Rattle.print.proofs.PrintLaws.{scrub_text}
 use Rattle.line.proofs.LineLaws.{line_printed, memory_line}
-use borrow.Author.Rules.{rules}
 use Rattle.line.proofs.scrub_line.Goals as goal
 
 pub returns : goal.returns

@@ -7,7 +7,6 @@ use mathlib.Core.List.{[]}
 use Rattle.calls.specs.Calls.{write}
 use Rattle.print.proofs.PrintLaws.{write_text}
 use Rattle.line.proofs.LineLaws.{line_printed, memory_line}
-use borrow.Author.Rules.{rules}
 use Rattle.line.proofs.write_line.Goals as goal
 
 pub returns : goal.returns

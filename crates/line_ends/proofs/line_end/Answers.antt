@@ -1,10 +1,7 @@
 -- The loop's invariant: the search from i on ends where that from the start does. Eight bytes hold an LF (`within_eight`) or are passed over
 -- (`past_eight`); fewer are left to `rest_end`, and past the end there is none (`length_end`).
 use native.Mathlib.Omega.{arith}
-use Prim.Native.Nat.{◌+◌, ◌-◌, ◌≤◌}
-use mathlib.Core.Path.{◌≡◌, refl}
-use lib.ListN.{length, drop}
-use Rattle.line_ends.specs.LineEnd.{line_length}
+use mathlib.Core.Path.{refl}
 use Rattle.line_ends.proofs.LineEndLaws.{within_eight, past_eight, length_end}
 use Rattle.line_ends.proofs.line_end.Goals as goal
 

@@ -1,10 +1,8 @@
 -- The loop's invariant: the search from i on ends where that from the start does (`length_past`). It ends at an LF (`length_lf`) or at the end of the
 -- chunk (`length_end`).
-use Prim.Native.Nat.{◌+◌, ◌-◌, ◌≤◌}
+use Prim.Native.Nat.{◌+◌}
 use native.Mathlib.Omega.{arith}
-use mathlib.Core.Path.{◌≡◌, refl}
-use lib.ListN.{length, drop}
-use Rattle.line_ends.specs.LineEnd.{line_length}
+use mathlib.Core.Path.{refl}
 use Rattle.line_ends.proofs.LineEndLaws.{length_lf, length_past, length_end}
 use Rattle.line_ends.proofs.rest_end.Goals as goal
 

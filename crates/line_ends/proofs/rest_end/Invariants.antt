@@ -1,9 +1,7 @@
 use Prim.Native.Nat.{◌+◌, ◌-◌, ◌≤◌}
-use native.Mathlib.Omega.{arith}
-use mathlib.Core.Path.{◌≡◌, refl}
+use mathlib.Core.Path.{◌≡◌}
 use lib.ListN.{length, drop}
 use Rattle.line_ends.specs.LineEnd.{line_length}
-use Rattle.line_ends.proofs.LineEndLaws.{length_lf, length_past, length_end}
 use Rattle.line_ends.proofs.rest_end.Given as goal
 
 abbrev pub invariant-loop-i : goal.invariant-loop-i

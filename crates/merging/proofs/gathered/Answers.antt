@@ -1,10 +1,10 @@
 -- `gathered` makes one number of the bytes of a write. The loop's invariant: x is the number of the first i bytes, so that the next one goes above them
 -- (begun_more of GatherLaws). Eight bytes are those of `number_at` (gathered-eight).
 use mathlib.Core.Path.{◌≡◌, refl}
-use Prim.Native.Nat.{◌-◌, ◌≤◌, ◌<◌}
+use Prim.Native.Nat.{◌<◌}
 use native.Mathlib.Omega.{arith}
 use lib.ListN.{length, get_or}
-use Rattle.merging.proofs.GatherLaws.{Begun, begun_more, begun_all, gathered_eight, gathered_none}
+use Rattle.merging.proofs.GatherLaws.{begun_more, begun_all, gathered_eight, gathered_none}
 use Rattle.merging.proofs.gathered.Goals as goal
 
 pub number_at-requires : goal.number_at-requires

@@ -2,7 +2,6 @@
 use Prim.Native.Nat.{◌%◌}
 use native.Mathlib.Omega.{arith}
 use Rattle.merging.proofs.LaneLaws.{lanes_merge}
-use borrow.Author.Rules.{rules}
 use Rattle.merging.proofs.with_bytes.Goals as goal
 
 pub returns : goal.returns

@@ -1,5 +1,4 @@
 -- The three answers of `compare`: a refusal by `of_refusal`, 1 if the records are alike, and 0 if they are not.
-use borrow.Author.Rules.{rules}
 use Rattle.mpc106.proofs.mpc106_v4_alike.Goals as goal
 
 pub returns-in-Refused : goal.returns-in-Refused

@@ -1,5 +1,4 @@
 -- The two answers of `cell_count`: "not ready" by `of_refusal`, or the number of cells.
-use borrow.Author.Rules.{rules}
 use Rattle.mpc106.proofs.mpc106_v4_cell_count.Goals as goal
 
 pub returns-in-NotReady : goal.returns-in-NotReady

@@ -1,5 +1,4 @@
 -- The verdict is that of `judge`, returned as `of_verdict` has it.
-use borrow.Author.Rules.{rules}
 use Rattle.mpc106.proofs.mpc106_v4_judge.Goals as goal
 
 pub returns : goal.returns

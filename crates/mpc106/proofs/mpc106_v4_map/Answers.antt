@@ -1,5 +1,4 @@
 -- The three answers of `map`: a refusal by `of_refusal`, five zeros for no bank, or the numbers of the place.
-use borrow.Author.Rules.{rules}
 use Rattle.mpc106.proofs.mpc106_v4_map.Goals as goal
 
 pub returns-in-Refused : goal.returns-in-Refused

@@ -1,5 +1,4 @@
 -- The two answers of `read`: a refusal by `of_refusal`, or the byte of the register.
-use borrow.Author.Rules.{rules}
 use Rattle.mpc106.proofs.mpc106_v4_register_read.Goals as goal
 
 pub returns-in-Refused : goal.returns-in-Refused

@@ -1,5 +1,4 @@
 -- The record is that of `write_in_place`, and its verdict is returned as `of_verdict` has it.
-use borrow.Author.Rules.{rules}
 use Rattle.mpc106.proofs.mpc106_v4_register_write.Goals as goal
 
 pub returns : goal.returns

@@ -1,5 +1,4 @@
 -- The two answers of `way_back`: a refusal by `of_refusal`, or the address.
-use borrow.Author.Rules.{rules}
 use Rattle.mpc106.proofs.mpc106_v4_way_back.Goals as goal
 
 pub returns-in-Refused : goal.returns-in-Refused

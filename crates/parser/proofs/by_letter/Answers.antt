@@ -3,7 +3,6 @@ use lib.ListN.{get_or}
 use borrow.Author.Tests.{eq-eqb, ne_eqb}
 use Rattle.parser.specs.Format.{by_letter}
 use Rattle.parser.proofs.ParsedLaws.{bare_asked}
-use borrow.Author.Rules.{rules}
 use Rattle.parser.proofs.by_letter.Goals as goal
 
 pub returns-then-letter-eq99 : goal.returns-then-letter-eq99

@@ -4,7 +4,6 @@ use native.Mathlib.Omega.{arith}
 use mathlib.Core.Path.{sym, ap, ◌∙◌}
 use Rattle.parser.specs.CodeParsed.{parsed_as}
 use Rattle.parser.proofs.FormatLaws.{parse_short, parse_long, parse_unparted, parse_letter}
-use borrow.Author.Rules.{rules}
 use Rattle.parser.proofs.parse.Goals as goal
 
 pub returns-then-line-lt2 : goal.returns-then-line-lt2

@@ -1,6 +1,5 @@
 -- Modulo 32, eight times a beat and eight times the beat modulo 4 are the same, so that this is `beat_address`.
 use native.Mathlib.Omega.{arith}
-use borrow.Author.Rules.{rules}
 use Rattle.calls.specs.Calls.{beat_address}
 use Rattle.parts.proofs.beat_address.Goals as goal
 

@@ -1,7 +1,6 @@
 -- The cell at the address of the beat.
 use mathlib.Core.Path.{ap, ◌∙◌}
 use Rattle.address_map.specs.CodeRoute.{cell_by}
-use borrow.Author.Rules.{rules}
 use Rattle.parts.proofs.beat_cell.Goals as goal
 
 pub returns : goal.returns

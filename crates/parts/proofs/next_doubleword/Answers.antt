@@ -1,7 +1,6 @@
 -- The next doubleword begins at 8 times the number of this one and 8 more (`next_at`), modulo the number of addresses.
 use native.Mathlib.Omega.{arith}
 use Rattle.calls.proofs.SplitLaws.{next_at}
-use borrow.Author.Rules.{rules}
 use Rattle.parts.proofs.next_doubleword.Goals as goal
 
 pub returns : goal.returns

@@ -8,8 +8,6 @@ use Rattle.refusals.specs.declared.Verdict.{Verdict}
 use Rattle.calls.specs.Answers.{kinds_in, unless_refused}
 use Rattle.print.specs.Output.{outcome_text, refused_text, kinds_text}
 use Rattle.print.proofs.PrintLaws.{print_none, print_is}
-use borrow.Author.Rules.{rules}
-use borrow.Author.Rules.{rules}
 use Rattle.print.proofs.kinds.Goals as goal
 
 pub returns-then-out-lt-LONGEST_OUTPUT_LINE : goal.returns-then-out-lt-LONGEST_OUTPUT_LINE

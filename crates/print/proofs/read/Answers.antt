@@ -9,7 +9,6 @@ use Rattle.refusals.specs.declared.Verdict.{Verdict}
 use Rattle.calls.specs.Answers.{kinds_in, unless_refused}
 use Rattle.print.specs.Output.{outcome_text, refused_text, accepted_text, kinds_and_bytes_text}
 use Rattle.print.proofs.PrintLaws.{least_le, take_least, print_none, print_is}
-use borrow.Author.Rules.{rules}
 use Rattle.print.proofs.read.Goals as goal
 
 pub returns-then-out-lt-LONGEST_OUTPUT_LINE : goal.returns-then-out-lt-LONGEST_OUTPUT_LINE

@@ -5,7 +5,6 @@ use Rattle.print.proofs.PrintLaws.{print_none, print_is}
 use Rattle.register_calls.specs.Calls.{paper_register_read}
 use Rattle.register_calls.specs.declared.RegisterRead.{RegisterRead}
 use Rattle.print.specs.Output.{register_read_text, refused_text}
-use borrow.Author.Rules.{rules}
 use Rattle.print.proofs.register_read.Goals as goal
 
 pub returns-then-out-lt-LONGEST_OUTPUT_LINE : goal.returns-then-out-lt-LONGEST_OUTPUT_LINE

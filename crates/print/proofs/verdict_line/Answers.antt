@@ -5,7 +5,6 @@ use Rattle.print.proofs.PrintLaws.{print_none, print_is}
 use Rattle.refusals.specs.Paper.{paper_verdict}
 use Rattle.refusals.specs.declared.Verdict.{Verdict}
 use Rattle.print.specs.Output.{verdict_text, refused_text}
-use borrow.Author.Rules.{rules}
 use Rattle.print.proofs.verdict_line.Goals as goal
 
 pub returns-then-out-lt-LONGEST_OUTPUT_LINE : goal.returns-then-out-lt-LONGEST_OUTPUT_LINE

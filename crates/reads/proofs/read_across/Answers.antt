@@ -1,10 +1,7 @@
 -- Refused with 9, or the bytes of two fetches (`fetched_read`, `across_taken`).
 use Prim.Native.Nat.{◌-◌}
 use mathlib.Core.Path.{refl, ◌∙◌}
-use mathlib.Core.Bool.{◌&&◌}
 use native.Mathlib.Omega.{arith}
-use borrow.Author.Rules.{rules}
-use borrow.Author.Tests.{not-true, not-false}
 use lib.ListN.{length}
 use Rattle.calls.specs.State.{lent_state}
 use Rattle.calls.specs.Calls.{read_in, room, next_doubleword}

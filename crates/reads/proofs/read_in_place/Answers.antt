@@ -1,7 +1,6 @@
 -- A split is handed on with its route; what stays inside its doubleword is refused early, or carried out on the cell of the route.
 use mathlib.Core.Path.{refl, sym, ap, ◌∙◌}
 use mathlib.Core.List.{[], ◌∷◌}
-use borrow.Author.Rules.{rules}
 use lib.ListN.{length}
 use Rattle.registers.specs.Record.{record_of}
 use Rattle.banks.specs.Setup.{setup_of}

@@ -1,8 +1,6 @@
 -- Refused with 9, or the bytes of one fetch (`fetched_read`).
 use mathlib.Core.Path.{refl, sym, ◌∙◌}
 use native.Mathlib.Omega.{arith}
-use borrow.Author.Rules.{rules}
-use borrow.Author.Tests.{not-true, not-false}
 use lib.ListN.{length}
 use Rattle.calls.specs.State.{lent_state}
 use Rattle.calls.specs.Calls.{read_in}

@@ -1,5 +1,4 @@
 -- Each of the twenty refusals, in its own case, has the number that comes first in `paper`.
-use borrow.Author.Rules.{rules}
 use Rattle.refusals.proofs.number.Goals as goal
 
 pub returns-in-UnlistedOffset : goal.returns-in-UnlistedOffset

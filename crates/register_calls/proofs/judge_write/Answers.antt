@@ -1,9 +1,7 @@
 -- The tests come in the order of `declined`. A listed offset is that of a byte (`listed_below`), and `judge` answers where `switches_on` holds.
 use mathlib.Core.Path.{sym, ◌∙◌}
-use borrow.Author.Tests.{not-false}
 use Rattle.register_calls.proofs.OffsetLaws.{listed_below}
 use Rattle.register_calls.specs.Calls.{declined, switches_on}
-use borrow.Author.Rules.{rules}
 use Rattle.register_calls.proofs.judge_write.Goals as goal
 
 pub returns-then-not-is_listed : goal.returns-then-not-is_listed

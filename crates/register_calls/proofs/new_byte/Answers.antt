@@ -1,6 +1,5 @@
 -- The two cases of `new_byte`, which `is_clearing` decides.
 use Rattle.register_calls.specs.Calls.{new_byte}
-use borrow.Author.Rules.{rules}
 use Rattle.register_calls.proofs.new_byte.Goals as goal
 
 pub returns-then-is_clearing : goal.returns-then-is_clearing

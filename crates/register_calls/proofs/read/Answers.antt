@@ -2,7 +2,6 @@
 use mathlib.Core.Path.{sym, ◌∙◌}
 use Rattle.register_calls.proofs.OffsetLaws.{listed_below}
 use Rattle.register_calls.specs.Calls.{read_at}
-use borrow.Author.Rules.{rules}
 use Rattle.register_calls.proofs.read.Goals as goal
 
 pub overflow_cast-offset : goal.overflow_cast-offset

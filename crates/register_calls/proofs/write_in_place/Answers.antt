@@ -4,7 +4,6 @@ use Rattle.refusals.specs.Paper.{paper_verdict}
 use Rattle.registers.specs.Record.{record_of}
 use Rattle.register_calls.specs.Calls.{write_at, written}
 use Rattle.register_calls.proofs.OffsetLaws.{accepted_below}
-use borrow.Author.Rules.{rules}
 use Rattle.register_calls.proofs.write_in_place.Goals as goal
 
 pub overflow_cast-o : goal.overflow_cast-o

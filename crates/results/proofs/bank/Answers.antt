@@ -7,7 +7,6 @@ use Rattle.refusals.specs.declared.Refusal.{Refusal}
 use Rattle.refusals.specs.declared.Refusal.TheVariants.{UnlistedOffset, ReadOnly, ValueOutOfRange, LockedWhileOn, NotReady, CountOutOfRange}
 use Rattle.refusals.specs.declared.Refusal.TheVariants.{PassesLastAddress, BitOutOfRange, NotLent, FlipWithoutBank, NoBankEnabled, StartAboveEnd}
 use Rattle.refusals.specs.declared.Refusal.TheVariants.{TooLong, Overlap, BankOff, RowOrColumnTooLarge, NoAddress, MalformedLine, Misaligned, NotCacheLine}
-use borrow.Author.Rules.{rules}
 use Rattle.results.proofs.bank.Goals as goal
 
 no_bank : (x : Refusal) → ((n : ℕ) → x ≡ StartAboveEnd n → ⊥) → ((n : ℕ) → x ≡ TooLong n → ⊥) → ((n : ℕ) → x ≡ Overlap n → ⊥) → 0 ≡ get_or (paper x) 1 0

@@ -1,5 +1,4 @@
 -- An accepted call returns 0 and its parts by `put_parts`; a refused one returns its refusal by `of_refusal` and leaves the lent numbers.
-use borrow.Author.Rules.{rules}
 use Rattle.results.proofs.give_answer.Goals as goal
 
 pub returns-in-Accepted : goal.returns-in-Accepted

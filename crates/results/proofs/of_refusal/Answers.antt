@@ -1,5 +1,4 @@
 -- `refusal_code` of what `number` and `bank` give: the number, and 256 times the bank.
-use borrow.Author.Rules.{rules}
 use Rattle.results.proofs.of_refusal.Goals as goal
 
 pub returns : goal.returns

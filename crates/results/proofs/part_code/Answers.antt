@@ -1,5 +1,4 @@
 -- Of a clean part the number is 1; of any other it is that of `number` and `flip_bit`, as `part_code` adds them.
-use borrow.Author.Rules.{rules}
 use Rattle.results.proofs.part_code.Goals as goal
 
 pub returns-in-Clean : goal.returns-in-Clean

@@ -1,12 +1,11 @@
 -- One part by `one_part`. Of others the loop's invariant is that the first i parts are put (`next_part`); it ends with all of them (`none_next`), and
 -- i is their count (`few`).
-use Prim.Native.Nat.{suc, ◌+◌, ◌-◌, ◌≤◌}
+use Prim.Native.Nat.{suc, ◌+◌}
 use native.Mathlib.Omega.{arith}
-use mathlib.Core.Path.{◌≡◌, refl}
-use lib.ListN.{length, take}
+use mathlib.Core.Path.{◌≡◌}
+use lib.ListN.{length}
 use borrow.Author.Rules.{rules}
-use Rattle.calls.specs.Answers.{kinds_in}
-use Rattle.results.proofs.PartLaws.{one_part, uncounted, next_part, few, is_next, none_next}
+use Rattle.results.proofs.PartLaws.{one_part, next_part, few, is_next, none_next}
 use Rattle.results.proofs.put_parts.Goals as goal
 
 pub returns-then-count-eq1 : goal.returns-then-count-eq1

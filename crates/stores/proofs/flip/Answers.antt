@@ -6,7 +6,6 @@ use lib.Dec.{ltb}
 use Rattle.basics.proofs.Bools.{and_left, and_right, and_not}
 use Rattle.access.proofs.FetchLaws.{lent_by}
 use Rattle.stores.proofs.StoreLaws.{flip_outside}
-use borrow.Author.Rules.{rules}
 use Rattle.stores.proofs.flip.Goals as goal
 
 pub flip_at-requires : goal.flip_at-requires

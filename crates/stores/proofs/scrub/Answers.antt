@@ -5,7 +5,6 @@ use Rattle.calls.specs.State.{lent_state}
 use Rattle.access.specs.CodeAccess.{lent_cell}
 use Rattle.access.proofs.OutcomeLaws.{corrected_kind, other_kind}
 use Rattle.stores.proofs.StoreLaws.{cell_lent, stored_again, kept_as_it_was, fetched_scrub}
-use borrow.Author.Rules.{rules}
 use Rattle.stores.proofs.scrub.Goals as goal
 
 pub store-requires : goal.store-requires

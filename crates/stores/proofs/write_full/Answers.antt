@@ -6,7 +6,6 @@ use Rattle.access.specs.CodeAccess.{outcome_by}
 use Rattle.access.proofs.FetchLaws.{lent_by}
 use Rattle.access.proofs.OutcomeLaws.{settled_record}
 use Rattle.stores.proofs.StoreLaws.{write_stored, write_missed}
-use borrow.Author.Rules.{rules}
 use Rattle.stores.proofs.write_full.Goals as goal
 
 pub store-requires : goal.store-requires

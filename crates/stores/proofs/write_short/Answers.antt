@@ -12,7 +12,6 @@ use Rattle.calls.specs.State.{lent_state}
 use Rattle.access.specs.CodeAccess.{lent_cell, short_bytes}
 use Rattle.access.proofs.OutcomeLaws.{right_kind, wrong_kind}
 use Rattle.stores.proofs.StoreLaws.{cell_lent, stored_again, kept_as_it_was, fetched_write, short_length}
-use borrow.Author.Rules.{rules}
 use Rattle.stores.proofs.write_short.Goals as goal
 
 pub store-requires : goal.store-requires

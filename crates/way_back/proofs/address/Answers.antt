@@ -9,7 +9,6 @@ use Rattle.banks.specs.Map.{cells}
 use Rattle.banks.proofs.FieldLaws.{cells_most}
 use Rattle.way_back.specs.WayBack.{span_end}
 use Rattle.way_back.proofs.WayBackLaws.{cell_in_bank_at, doubleword_for, address_given_lem, address_none}
-use borrow.Author.Rules.{rules}
 use Rattle.way_back.proofs.address.Goals as goal
 
 pub next_doubleword-d-requires : goal.next_doubleword-d-requires

@@ -12,7 +12,6 @@ use Rattle.banks.specs.Setup.{Bounded}
 use Rattle.banks.proofs.FieldLaws.{cells_most}
 use Rattle.way_back.specs.WayBack.{in_range}
 use Rattle.way_back.proofs.WayBackLaws.{cell_in_bank_below}
-use borrow.Author.Rules.{rules}
 use Rattle.way_back.proofs.cell_in_bank_at.Goals as goal
 
 small : (b : Bank) (row : Row) (column : Column) → Bounded b → in_range b row column ≡ true → row.0 * 2 ^ b.column_bits + column.0 < most_cells

@@ -2,7 +2,6 @@
 use native.Mathlib.Omega.{arith}
 use Rattle.basics.proofs.Shifts.{one_shl}
 use Rattle.way_back.specs.WayBack.{in_range}
-use borrow.Author.Rules.{rules}
 use Rattle.way_back.proofs.is_in_range.Goals as goal
 
 pub returns : goal.returns

@@ -1,10 +1,7 @@
 -- Refused with 9, or two short writes, whose bytes are shifted out of one number (`first_bytes`, `rest_bytes`).
 use mathlib.Core.Path.{refl, ap}
-use mathlib.Core.Bool.{◌&&◌}
 use mathlib.Core.List.{[]}
 use native.Mathlib.Omega.{arith}
-use borrow.Author.Rules.{rules}
-use borrow.Author.Tests.{not-true, not-false}
 use lib.ListN.{length, take, drop}
 use Rattle.calls.specs.State.{lent_state}
 use Rattle.calls.specs.Calls.{write_in, room, next_doubleword}

@@ -2,7 +2,6 @@
 use borrow.Author.Tests.{lt-ltb, le-ltb}
 use native.Mathlib.Omega.{arith}
 use Rattle.address_map.specs.CodeRoute.{bank_in}
-use borrow.Author.Rules.{rules}
 use Rattle.access.proofs.admission.admit.Goals as goal
 
 pub returns-then-bank_of-gt-NO_BANK : goal.returns-then-bank_of-gt-NO_BANK

@@ -3,7 +3,6 @@ use mathlib.Core.Path.{ap}
 use mathlib.Core.Bool.{Bool, ◌||◌}
 use lib.Dec.{eqb}
 use Rattle.address_map.specs.CodeRoute.{no_cell}
-use borrow.Author.Rules.{rules}
 use Rattle.access.proofs.admission.is_allowed.Goals as goal
 
 pub returns : goal.returns

@@ -6,7 +6,6 @@ use lib.Dec.{ltb}
 use Rattle.basics.proofs.RangeLaws.{by_cases}
 use Rattle.calls.specs.Calls.{crosses}
 use Rattle.calls.proofs.SplitLaws.{room_ends}
-use borrow.Author.Rules.{rules}
 use Rattle.access.proofs.arguments.crosses_end.Goals as goal
 
 pub returns : goal.returns

@@ -10,7 +10,6 @@ use Rattle.basics.proofs.RangeLaws.{by_cases}
 use Rattle.calls.specs.Calls.{crosses}
 use Rattle.calls.specs.Spans.{by_count}
 use Rattle.calls.proofs.SplitLaws.{inside_fits}
-use borrow.Author.Rules.{rules}
 use Rattle.access.proofs.arguments.judge_count.Goals as goal
 
 few : (n : ℕ) → (eqb n 0 || ltb 8 n) ≡ false → n ≤ 8

@@ -1,7 +1,6 @@
 -- `room` is this difference.
 use mathlib.Core.Path.{refl}
 use Rattle.calls.specs.Calls.{room}
-use borrow.Author.Rules.{rules}
 use Rattle.access.proofs.arguments.room_at.Goals as goal
 
 pub returns : goal.returns

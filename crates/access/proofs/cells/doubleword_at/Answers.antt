@@ -6,7 +6,6 @@ use mathlib.Core.Path.{◌≡◌, ap, sym, ◌∙◌}
 use Prim.Native.Nat.{ℕ, ◌+◌, ◌-◌, ◌*◌}
 use lib.ListN.{take, drop}
 use Rattle.ecc.specs.Lending.{cell_at}
-use borrow.Author.Rules.{rules}
 use Rattle.access.proofs.cells.doubleword_at.Goals as goal
 
 pub overflow_mul-a : goal.overflow_mul-a

@@ -6,7 +6,6 @@ use borrow.Author.Tests.{le-leb}
 use lib.ListN.{length}
 use Rattle.eight_bytes.specs.CodeNumber.{eight_at}
 use Rattle.ecc.specs.Doubleword.{bytes_of_number}
-use borrow.Author.Rules.{rules}
 use Rattle.access.proofs.cells.joined.Goals as goal
 
 pub returns : goal.returns

@@ -9,7 +9,6 @@ use Rattle.calls.specs.State.{lent_state}
 use Rattle.access.specs.CodeAccess.{outcome_by}
 use Rattle.access.proofs.OutcomeLaws.{settled_outcome, settled_record, found_lent, found_syndrome}
 use Rattle.access.proofs.FetchLaws.{fetched_none, fetched_clean, fetched_by}
-use borrow.Author.Rules.{rules}
 use Rattle.access.proofs.perform.fetch.Goals as goal
 
 pub doubleword_at-requires : goal.doubleword_at-requires

@@ -6,7 +6,6 @@ use Rattle.basics.proofs.RangeLaws.{contra}
 use Rattle.ecc.specs.Lending.{is_lent}
 use Rattle.access.specs.CodeAccess.{found_at}
 use Rattle.access.proofs.OutcomeLaws.{found_syndrome}
-use borrow.Author.Rules.{rules}
 use Rattle.access.proofs.perform.found_at.Goals as goal
 
 pub syndrome_at-requires : goal.syndrome_at-requires

@@ -1,7 +1,6 @@
 -- Without a cell there is no bank; a syndrome has its entry in the table.
 use borrow.Author.Tests.{ne_eqb}
 use Rattle.access.specs.CodeAccess.{outcome_by}
-use borrow.Author.Rules.{rules}
 use Rattle.access.proofs.perform.outcome_of.Goals as goal
 
 pub returns-then-found-eq-NO_CELL_FOUND : goal.returns-then-found-eq-NO_CELL_FOUND

@@ -3,7 +3,6 @@ use mathlib.Core.Path.{ap, ap₂}
 use Prim.Native.Nat.{ℕ}
 use Rattle.registers.specs.declared.Registers.{Registers}
 use Rattle.registers.specs.Record.{record_of}
-use borrow.Author.Rules.{rules}
 use Rattle.access.proofs.perform.settle.Goals as goal
 
 pub returns : goal.returns

@@ -1,6 +1,5 @@
 -- The check byte of the stored bytes, exclusive-or the stored one.
 use Rattle.ecc.specs.CheckCode.{syndrome_of}
-use borrow.Author.Rules.{rules}
 use Rattle.access.proofs.perform.syndrome_at.Goals as goal
 
 pub returns : goal.returns

@@ -1,6 +1,6 @@
 -- The row and column of an address are the quotient and remainder of its cell in the bank: `cell_is` gives that cell, `rows_are` and `columns_are`
 -- the column bits, `and_mask` the remainder, `cells_bound` the room for the sum.
-use Rattle.std.proofs.Common.{◌≡◌, ◌-◌, ◌%◌, ◌^◌, ◌∙◌, arith, pow_pos, rules}
+use Rattle.std.proofs.Common.{◌≡◌, ◌-◌, ◌%◌, ◌^◌, ◌∙◌, arith, pow_pos}
 use lib.Bits.{bit_and, and_mask}
 use Rattle.banks.specs.Setup.{bank}
 use Rattle.banks.specs.Map.{cell_in_bank, place_of, row_of, column_of}

@@ -1,5 +1,5 @@
 -- Each number is the one that `fields_of` names: sixteen megabyte numbers, then three numbers of bytes.
-use Rattle.std.proofs.Common.{add-zero, mul-zero, rules}
+use Rattle.std.proofs.Common.{add-zero, mul-zero}
 use Rattle.banks.specs.Setup.{start_of, last_of}
 use Rattle.address_map.specs.CodeFields.{fields_of}
 use Rattle.address_map.proofs.fields.fields_in.Goals as goal

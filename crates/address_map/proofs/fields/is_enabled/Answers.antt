@@ -1,5 +1,5 @@
 -- The enable bit of a bank is that of `setup_by`, by `and_mask` and `enabled_is`.
-use Rattle.std.proofs.Common.{◌/◌, ◌%◌, ◌^◌, get_or, rules}
+use Rattle.std.proofs.Common.{◌/◌, ◌%◌, ◌^◌, get_or}
 use lib.Bits.{and_mask}
 use Rattle.address_map.proofs.PassLaws.{enabled_is}
 use Rattle.address_map.proofs.fields.is_enabled.Goals as goal

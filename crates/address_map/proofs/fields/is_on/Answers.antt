@@ -1,5 +1,5 @@
 -- The bit that switches memory on is that of `setup_by`, by `and_mask`.
-use Rattle.std.proofs.Common.{ℕ, ◌/◌, ◌^◌, eqb, get_or, ap, rules}
+use Rattle.std.proofs.Common.{ℕ, ◌/◌, ◌^◌, eqb, get_or, ap}
 use lib.Bits.{and_mask}
 use Rattle.address_map.specs.CodeFields.{setup_by}
 use Rattle.address_map.proofs.fields.is_on.Goals as goal

@@ -1,5 +1,5 @@
 -- A mask of two ones leaves the remainder by 4, by `and_mask`.
-use Rattle.std.proofs.Common.{◌+◌, get_or, ◌∙◌, rules}
+use Rattle.std.proofs.Common.{◌+◌, get_or, ◌∙◌}
 use lib.Bits.{and_mask}
 use Rattle.address_map.proofs.fields.megabyte.Goals as goal
 

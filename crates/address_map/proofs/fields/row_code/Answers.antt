@@ -1,5 +1,5 @@
 -- The row code of a bank is that of `code_by`, by `and_mask`.
-use Rattle.std.proofs.Common.{◌∙◌, arith, rules}
+use Rattle.std.proofs.Common.{◌∙◌, arith}
 use lib.Bits.{and_mask}
 use Rattle.address_map.specs.CodeFields.{code_by}
 use Rattle.address_map.proofs.fields.row_code.Goals as goal

@@ -1,8 +1,5 @@
 -- The loop asks each bank below n (`every_none`, `every_more`); that bank n meets none of them is the negation of `meets_lower` (`clear_is`).
-use Rattle.std.proofs.Common.{◌≡◌, ◌-◌, ◌≤◌, not, ◌&&◌, sym, ◌∙◌, arith}
-use Rattle.basics.specs.Range.{every}
-use Rattle.banks.specs.Setup.{bank}
-use Rattle.banks.specs.Judge.{meets}
+use Rattle.std.proofs.Common.{◌≡◌, sym, ◌∙◌, arith}
 use Rattle.address_map.specs.CodeFields.{setup_by}
 use Rattle.address_map.proofs.PairLaws.{every_none, every_more, clear_is}
 use Rattle.address_map.proofs.pairs.is_clear.Goals as goal

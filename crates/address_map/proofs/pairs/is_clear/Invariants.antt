@@ -1,9 +1,8 @@
-use Rattle.std.proofs.Common.{◌≡◌, ◌-◌, ◌≤◌, not, ◌&&◌, sym, ◌∙◌, arith}
+use Rattle.std.proofs.Common.{◌≡◌, ◌-◌, ◌≤◌, not, ◌&&◌}
 use Rattle.basics.specs.Range.{every}
 use Rattle.banks.specs.Setup.{bank}
 use Rattle.banks.specs.Judge.{meets}
 use Rattle.address_map.specs.CodeFields.{setup_by}
-use Rattle.address_map.proofs.PairLaws.{every_none, every_more, clear_is}
 use Rattle.address_map.proofs.pairs.is_clear.Given as goal
 
 abbrev pub invariant-loop-m : goal.invariant-loop-m

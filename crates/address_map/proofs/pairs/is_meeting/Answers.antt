@@ -1,5 +1,5 @@
 -- Two enabled banks meet if each starts no later than the other ends, by `meeting_in`.
-use Rattle.std.proofs.Common.{◌≡◌, ◌%◌, arith, rules}
+use Rattle.std.proofs.Common.{◌≡◌, ◌%◌, arith}
 use Rattle.address_map.proofs.PairLaws.{meeting_in}
 use Rattle.address_map.proofs.pairs.is_meeting.Goals as goal
 

@@ -1,5 +1,5 @@
 -- An enabled bank meets a lower one if it is not clear of them; a disabled one meets none.
-use Rattle.std.proofs.Common.{sym, ◌∙◌, rules}
+use Rattle.std.proofs.Common.{sym, ◌∙◌}
 use Rattle.basics.proofs.RangeLaws.{by_cases}
 use Rattle.banks.specs.Judge.{meets_lower}
 use Rattle.address_map.specs.CodeFields.{setup_by}

@@ -1,7 +1,5 @@
 -- The loop asks each of the eight banks (`every_none`, `every_more`); all are clear if a search for the lowest that meets finds none (`none_meets`).
-use Rattle.std.proofs.Common.{◌≡◌, ◌-◌, ◌≤◌, not, sym, ◌∙◌, arith}
-use Rattle.basics.specs.Range.{every}
-use Rattle.banks.specs.Judge.{meets_lower}
+use Rattle.std.proofs.Common.{◌≡◌, sym, ◌∙◌, arith}
 use Rattle.address_map.specs.CodeFields.{setup_by}
 use Rattle.address_map.proofs.PairLaws.{every_none, every_more, none_meets}
 use Rattle.address_map.proofs.pairs.none_meets.Goals as goal

@@ -1,8 +1,7 @@
-use Rattle.std.proofs.Common.{◌≡◌, ◌-◌, ◌≤◌, not, sym, ◌∙◌, arith}
+use Rattle.std.proofs.Common.{◌≡◌, ◌-◌, ◌≤◌, not}
 use Rattle.basics.specs.Range.{every}
 use Rattle.banks.specs.Judge.{meets_lower}
 use Rattle.address_map.specs.CodeFields.{setup_by}
-use Rattle.address_map.proofs.PairLaws.{every_none, every_more, none_meets}
 use Rattle.address_map.proofs.pairs.none_meets.Given as goal
 
 abbrev pub invariant-loop-n : goal.invariant-loop-n

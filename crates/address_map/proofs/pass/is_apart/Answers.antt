@@ -1,5 +1,5 @@
 -- What is known is what the precondition says (`le-leb`); otherwise it is what `none_meets` finds.
-use Rattle.std.proofs.Common.{sym, rules, le-leb}
+use Rattle.std.proofs.Common.{sym, le-leb}
 use Rattle.address_map.proofs.pass.is_apart.Goals as goal
 
 pub returns-then-known : goal.returns-then-known

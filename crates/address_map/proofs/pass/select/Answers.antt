@@ -2,13 +2,12 @@
 -- adds a bank, `going_end` reads what it says when no bank is left. What is returned is `chosen`, or `declined` with the reason why the set-up is
 -- not ready.
 use Rattle.std.proofs.Common.{◌^◌, get_or, sym, ◌∙◌, arith, w32, Fits, rules, leb-false, leb-true}
-use borrow.Author.Tests.{not-true, not-false}
 use Rattle.banks.specs.Setup.{Setup}
 use Rattle.banks.specs.Judge.{lowest_meeting}
 use Rattle.address_map.specs.CodeFields.{setup_by}
 use Rattle.address_map.specs.CodeRoute.{route_by}
 use Rattle.address_map.proofs.EnableLaws.{rest_falls}
-use Rattle.address_map.proofs.PassLaws.{Going, going_start, going_next, going_end, same_here, power_below, power_fits, base_fits, forward_here, faulty_here}
+use Rattle.address_map.proofs.PassLaws.{going_start, going_next, going_end, same_here, power_below, power_fits, base_fits, forward_here, faulty_here}
 use Rattle.address_map.proofs.PassLaws.{some_enabled, none_enabled, ready_from, unready_off, unready_none, unready_faulty, unready_meeting}
 use Rattle.address_map.proofs.PassLaws.{none_faulty, none_meeting, packs, chosen, declined}
 use Rattle.address_map.proofs.pass.select.Goals as goal

@@ -1,5 +1,5 @@
 -- The cell of an address by its route, in the two cases of `cell_by`.
-use Rattle.std.proofs.Common.{rules, le-leb}
+use Rattle.std.proofs.Common.{le-leb}
 use borrow.Author.Tests.{lt-leb}
 use Rattle.address_map.specs.CodeRoute.{cell_by}
 use Rattle.address_map.proofs.routes.cell_at.Goals as goal

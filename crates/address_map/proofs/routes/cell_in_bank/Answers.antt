@@ -1,5 +1,5 @@
 -- A mask of 17 + bits ones leaves the remainder by 2 ^ (17 + bits): `one_shl` for the mask, `and_mask` for the remainder.
-use Rattle.std.proofs.Common.{◌+◌, ◌-◌, ◌*◌, ◌/◌, ◌%◌, ◌^◌, arith, pow_pos, rules}
+use Rattle.std.proofs.Common.{◌+◌, ◌-◌, ◌*◌, ◌/◌, ◌%◌, ◌^◌, arith, pow_pos}
 use lib.Bits.{and_mask, and_le_l}
 use Rattle.basics.proofs.Shifts.{one_shl}
 use Rattle.address_map.proofs.routes.cell_in_bank.Goals as goal

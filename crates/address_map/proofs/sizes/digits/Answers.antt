@@ -1,5 +1,5 @@
 -- The leading zeros of 2 x + 1 tell the digits of x (`leading_double`), and there are at most 31 of them (`leading_top`).
-use Rattle.std.proofs.Common.{◌≡◌, ◌+◌, ◌*◌, ◌%◌, ◌^◌, arith, rules}
+use Rattle.std.proofs.Common.{◌≡◌, ◌+◌, ◌*◌, ◌%◌, ◌^◌, arith}
 use lib.Count.{leading_top}
 use Rattle.basics.proofs.Zeros.{leading_double}
 use Rattle.address_map.proofs.sizes.digits.Goals as goal

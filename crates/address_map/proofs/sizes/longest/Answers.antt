@@ -1,5 +1,5 @@
 -- The table of the longest banks follows its rule, by `table_is`.
-use Rattle.std.proofs.Common.{◌^◌, arith, rules}
+use Rattle.std.proofs.Common.{◌^◌, arith}
 use Rattle.address_map.proofs.LongestLaws.{one_of_four, table_is}
 use Rattle.address_map.proofs.sizes.longest.Goals as goal
 

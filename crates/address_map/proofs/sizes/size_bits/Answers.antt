@@ -1,5 +1,5 @@
 -- The greater of the row code and the number of digits of the span is the size in bits, by `size_is`.
-use Rattle.std.proofs.Common.{◌%◌, ◌^◌, rules}
+use Rattle.std.proofs.Common.{◌%◌, ◌^◌}
 use Rattle.address_map.proofs.SizeLaws.{size_is}
 use Rattle.address_map.proofs.sizes.size_bits.Goals as goal
 

@@ -1,7 +1,6 @@
 -- `byte` gives one byte of a doubleword (number_at of DoublewordLaws).
 use mathlib.Core.Path.{sym}
 use Rattle.ecc.proofs.DoublewordLaws.{number_at}
-use borrow.Author.Rules.{rules}
 use Rattle.byte_lanes.proofs.out.byte.Goals as goal
 
 pub returns : goal.returns

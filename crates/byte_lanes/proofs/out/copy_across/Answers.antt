@@ -3,7 +3,6 @@ use mathlib.Core.Path.{ap, ◌∙◌}
 use borrow.Author.Tests.{le-leb, lt-leb}
 use lib.ListN.{length, take}
 use Rattle.ecc.specs.Doubleword.{bytes_of_number}
-use borrow.Author.Rules.{rules}
 use Rattle.byte_lanes.proofs.out.copy_across.Goals as goal
 
 pub returns-then-buffer-gt8 : goal.returns-then-buffer-gt8

@@ -2,12 +2,11 @@
 -- that i of them are there (paste of lib.Seq, one more by paste-suc).
 use mathlib.Core.Path.{◌≡◌, refl, sym, ◌∙◌}
 use mathlib.Core.List.{append-nil}
-use Prim.Native.Nat.{◌-◌, ◌≤◌}
 use native.Mathlib.Nat.{zero-add}
 use native.Mathlib.Numerals.{add-one}
 use native.Mathlib.Omega.{arith}
 use lib.ListN.{length, drop, length-set, length-drop}
-use lib.Seq.{paste, paste-zero, paste-suc, get_or-drop, drop-length, take_all}
+use lib.Seq.{paste-zero, paste-suc, get_or-drop, drop-length, take_all}
 use Rattle.basics.proofs.ListLaws.{all_stored}
 use Rattle.ecc.specs.Doubleword.{bytes_of_number}
 use Rattle.ecc.proofs.DoublewordLaws.{number_length}

@@ -1,15 +1,8 @@
-use mathlib.Core.Path.{◌≡◌, refl, sym, ◌∙◌}
-use mathlib.Core.List.{append-nil}
+use mathlib.Core.Path.{◌≡◌}
 use Prim.Native.Nat.{◌-◌, ◌≤◌}
-use native.Mathlib.Nat.{zero-add}
-use native.Mathlib.Numerals.{add-one}
-use native.Mathlib.Omega.{arith}
-use lib.ListN.{length, drop, length-set, length-drop}
-use lib.Seq.{paste, paste-zero, paste-suc, get_or-drop, drop-length, take_all}
-use Rattle.basics.proofs.ListLaws.{all_stored}
+use lib.ListN.{length, drop}
+use lib.Seq.{paste}
 use Rattle.ecc.specs.Doubleword.{bytes_of_number}
-use Rattle.ecc.proofs.DoublewordLaws.{number_length}
-use borrow.Author.Rules.{rules}
 use Rattle.byte_lanes.proofs.out.copy_from.Given as goal
 
 abbrev pub invariant-loop-i : goal.invariant-loop-i

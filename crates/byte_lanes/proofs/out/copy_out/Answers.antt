@@ -5,7 +5,6 @@ use lib.ListN.{length}
 use borrow.Author.Tests.{lt-ltb}
 use Rattle.calls.specs.Calls.{crosses}
 use Rattle.calls.proofs.SplitLaws.{fits_inside}
-use borrow.Author.Rules.{rules}
 use Rattle.byte_lanes.proofs.out.copy_out.Goals as goal
 
 pub returns-then-address-buffer : goal.returns-then-address-buffer

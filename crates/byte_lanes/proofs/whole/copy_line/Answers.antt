@@ -3,7 +3,6 @@ use borrow.Author.Tests.{eq-eqb, ne_eqb}
 use Rattle.ecc.specs.Doubleword.{bytes_of_number}
 use Rattle.ecc.proofs.DoublewordLaws.{number_length}
 use Rattle.byte_lanes.proofs.StoreLaws.{four_stored}
-use borrow.Author.Rules.{rules}
 use Rattle.byte_lanes.proofs.whole.copy_line.Goals as goal
 
 pub returns-then-buffer-ne32 : goal.returns-then-buffer-ne32

@@ -3,7 +3,6 @@ use mathlib.Core.Path.{◌≡◌}
 use Prim.Native.Nat.{suc, ◌+◌}
 use native.Mathlib.Omega.{arith}
 use lib.ListN.{length-set}
-use borrow.Author.Rules.{rules}
 use Rattle.byte_lanes.proofs.whole.store_four.Goals as goal
 
 pub bounds-buffer-at-2 : goal.bounds-buffer-at-2

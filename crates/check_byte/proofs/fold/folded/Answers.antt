@@ -1,6 +1,5 @@
 -- The rotation is that of the definition.
 use Rattle.check_byte.specs.CodeFold.{folded}
-use borrow.Author.Rules.{rules}
 use Rattle.check_byte.proofs.fold.folded.Goals as goal
 
 pub returns : goal.returns

@@ -1,6 +1,5 @@
 -- The masks and folds of the code are those of the definition, one by one.
 use Rattle.check_byte.specs.CodeFold.{folded_masks}
-use borrow.Author.Rules.{rules}
 use Rattle.check_byte.proofs.fold.folded_masks.Goals as goal
 
 pub returns : goal.returns

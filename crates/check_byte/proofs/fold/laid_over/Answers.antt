@@ -1,6 +1,5 @@
 -- The eight bytes are laid over each other in three steps.
 use Rattle.check_byte.specs.CodeFold.{laid_over}
-use borrow.Author.Rules.{rules}
 use Rattle.check_byte.proofs.fold.laid_over.Goals as goal
 
 pub returns : goal.returns

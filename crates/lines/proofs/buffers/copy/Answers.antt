@@ -1,6 +1,5 @@
 -- The loop's invariant: the first i bytes are pasted, none at first (`paste-zero`) and then one more each time (`paste-suc`), in as many bytes as
 -- before (`length-paste`).
-use Prim.Native.Nat.{◌-◌, ◌≤◌}
 use native.Mathlib.Omega.{arith}
 use native.Mathlib.Numerals.{add-one}
 use mathlib.Core.Path.{◌≡◌, ap, ◌∙◌}

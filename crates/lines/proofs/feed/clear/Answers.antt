@@ -1,9 +1,8 @@
 -- The loop's invariant: zeros up to i, and the bytes from i on as they were (`clear_next`); at the end of the cells none are left (`drop-length`).
-use Prim.Native.Nat.{◌-◌, ◌≤◌}
 use native.Mathlib.Omega.{arith}
 use mathlib.Core.Path.{◌≡◌, refl, ◌∙◌}
-use mathlib.Core.List.{◌++◌, append-nil}
-use lib.ListN.{length, drop, length-set}
+use mathlib.Core.List.{append-nil}
+use lib.ListN.{length, length-set}
 use lib.Seq.{drop-length}
 use Rattle.parser.proofs.PaddedLaws.{zeros}
 use Rattle.lines.proofs.StepLaws.{clear_next}

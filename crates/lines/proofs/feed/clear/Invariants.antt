@@ -1,11 +1,8 @@
 use Prim.Native.Nat.{◌-◌, ◌≤◌}
-use native.Mathlib.Omega.{arith}
-use mathlib.Core.Path.{◌≡◌, refl, ◌∙◌}
-use mathlib.Core.List.{◌++◌, append-nil}
-use lib.ListN.{length, drop, length-set}
-use lib.Seq.{drop-length}
+use mathlib.Core.Path.{◌≡◌}
+use mathlib.Core.List.{◌++◌}
+use lib.ListN.{length, drop}
 use Rattle.parser.proofs.PaddedLaws.{zeros}
-use Rattle.lines.proofs.StepLaws.{clear_next}
 use Rattle.lines.proofs.feed.clear.Given as goal
 
 abbrev pub invariant-loop-i : goal.invariant-loop-i

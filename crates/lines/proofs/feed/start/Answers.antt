@@ -6,7 +6,6 @@ use Rattle.registers.specs.declared.Registers.{Registers}
 use Rattle.calls.specs.State.{state}
 use Rattle.lines.specs.CodeStepped.{carry_of, kept_as}
 use Rattle.lines.specs.Text.{carrying}
-use borrow.Author.Rules.{rules}
 use Rattle.lines.proofs.feed.start.Goals as goal
 
 pub returns : goal.returns

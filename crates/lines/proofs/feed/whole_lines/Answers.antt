@@ -1,14 +1,14 @@
 -- The loop's invariant is `Before` of StepLaws: `before_first` begins it, `before_next` goes on to the next line, and `lines_reached` is what the
 -- last line leaves. The printed bytes fit (`line_fits`).
 use native.Mathlib.Omega.{arith}
-use Prim.Native.Nat.{◌+◌, ◌-◌, ◌<◌, ◌^◌}
-use mathlib.Core.Path.{◌≡◌, refl, ◌∙◌}
+use Prim.Native.Nat.{◌+◌, ◌<◌, ◌^◌}
+use mathlib.Core.Path.{refl, ◌∙◌}
 use lib.ListN.{length}
 use Rattle.ecc.specs.Columns.{columns}
 use Rattle.registers.specs.Record.{record_of}
 use Rattle.calls.specs.State.{state}
 use Rattle.line_ends.proofs.LineEndLaws.{end_within}
-use Rattle.lines.proofs.StepLaws.{Before, before_first, lines_reached, same_size, line_fits, before_next}
+use Rattle.lines.proofs.StepLaws.{before_first, lines_reached, same_size, line_fits, before_next}
 use borrow.Author.Rules.{rules}
 use Rattle.lines.proofs.feed.whole_lines.Goals as goal
 

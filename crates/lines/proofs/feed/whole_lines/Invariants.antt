@@ -1,13 +1,10 @@
-use native.Mathlib.Omega.{arith}
-use Prim.Native.Nat.{◌+◌, ◌-◌, ◌<◌, ◌^◌}
-use mathlib.Core.Path.{◌≡◌, refl, ◌∙◌}
+use Prim.Native.Nat.{◌-◌}
+use mathlib.Core.Path.{◌≡◌}
 use lib.ListN.{length}
 use Rattle.ecc.specs.Columns.{columns}
 use Rattle.registers.specs.Record.{record_of}
 use Rattle.calls.specs.State.{state}
-use Rattle.line_ends.proofs.LineEndLaws.{end_within}
-use Rattle.lines.proofs.StepLaws.{Before, before_first, lines_reached, same_size, line_fits, before_next}
-use borrow.Author.Rules.{rules}
+use Rattle.lines.proofs.StepLaws.{Before}
 use Rattle.lines.proofs.feed.whole_lines.Given as goal
 
 abbrev pub invariant-loop-end : goal.invariant-loop-end

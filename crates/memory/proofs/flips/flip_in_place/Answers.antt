@@ -1,7 +1,6 @@
 -- Refused early, 10 by the bank of the route, or carried out on its cell.
 use mathlib.Core.Path.{refl, ap, ◌∙◌}
 use mathlib.Core.List.{[], ◌∷◌}
-use borrow.Author.Rules.{rules}
 use Rattle.registers.specs.Record.{record_of}
 use Rattle.banks.specs.Setup.{setup_of}
 use Rattle.calls.specs.State.{lent_state}

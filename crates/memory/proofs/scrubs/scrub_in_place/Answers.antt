@@ -2,7 +2,6 @@
 use mathlib.Core.Path.{refl, ap, ◌∙◌}
 use mathlib.Core.List.{[], ◌∷◌}
 use mathlib.Core.Option.{none}
-use borrow.Author.Rules.{rules}
 use Rattle.registers.specs.Record.{record_of}
 use Rattle.banks.specs.Setup.{setup_of}
 use Rattle.calls.specs.State.{lent_state}

@@ -1,13 +1,13 @@
 -- `parser::hex_bytes`: the loop's bytes so far go before those that are left (`bytes_next`), and the bytes after them are still 0 (`zeros_later`).
-use Prim.Native.Nat.{◌+◌, ◌*◌, ◌-◌, ◌≤◌}
+use Prim.Native.Nat.{◌+◌}
 use native.Mathlib.Omega.{arith}
 use mathlib.Core.Path.{◌≡◌, refl, ap, ◌∙◌}
 use mathlib.Core.Option.{some}
-use lib.ListN.{length, take, drop, length-set}
+use lib.ListN.{take, drop, length-set}
 use lib.Seq.{drop-set-lt}
 use Rattle.hex_digits.specs.Digits.{hex_bytes}
-use Rattle.parser.proofs.PaddedLaws.{zeros, zeros_later}
-use Rattle.parser.proofs.ByteLaws.{prefixed, prefixed_nil, bytes_next, bytes_stop, bytes_end}
+use Rattle.parser.proofs.PaddedLaws.{zeros_later}
+use Rattle.parser.proofs.ByteLaws.{prefixed_nil, bytes_next, bytes_stop, bytes_end}
 use Rattle.parser.proofs.bytes.hex_bytes.Goals as goal
 
 pub loop-i-init : goal.loop-i-init

@@ -1,12 +1,9 @@
 use Prim.Native.Nat.{◌+◌, ◌*◌, ◌-◌, ◌≤◌}
-use native.Mathlib.Omega.{arith}
-use mathlib.Core.Path.{◌≡◌, refl, ap, ◌∙◌}
-use mathlib.Core.Option.{some}
-use lib.ListN.{length, take, drop, length-set}
-use lib.Seq.{drop-set-lt}
+use mathlib.Core.Path.{◌≡◌}
+use lib.ListN.{length, take, drop}
 use Rattle.hex_digits.specs.Digits.{hex_bytes}
-use Rattle.parser.proofs.PaddedLaws.{zeros, zeros_later}
-use Rattle.parser.proofs.ByteLaws.{prefixed, prefixed_nil, bytes_next, bytes_stop, bytes_end}
+use Rattle.parser.proofs.PaddedLaws.{zeros}
+use Rattle.parser.proofs.ByteLaws.{prefixed}
 use Rattle.parser.proofs.bytes.hex_bytes.Given as goal
 
 abbrev pub invariant-loop-i : goal.invariant-loop-i

@@ -3,7 +3,6 @@ use Prim.Native.Nat.{◌+◌, ◌*◌}
 use native.Mathlib.Omega.{arith}
 use mathlib.Core.Path.{sym, ◌∙◌}
 use Rattle.parser.proofs.DigitLaws.{both_below, below_some, pair_some, pair_none}
-use borrow.Author.Rules.{rules}
 use Rattle.parser.proofs.digits.hex_pair.Goals as goal
 
 pub returns-then-high-low : goal.returns-then-high-low

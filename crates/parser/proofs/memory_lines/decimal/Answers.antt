@@ -4,7 +4,6 @@ use native.Mathlib.Omega.{arith}
 use mathlib.Core.Path.{sym, ◌∙◌}
 use borrow.Author.Tests.{lt-ltb, le-ltb, ne_eqb}
 use Rattle.parser.proofs.DigitLaws.{below_some, decimal_one, decimal_two, decimal_long}
-use borrow.Author.Rules.{rules}
 use Rattle.parser.proofs.memory_lines.decimal.Goals as goal
 
 pub returns-then-n-eq12 : goal.returns-then-n-eq12

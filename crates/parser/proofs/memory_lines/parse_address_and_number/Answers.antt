@@ -7,7 +7,6 @@ use Rattle.parser.proofs.DigitLaws.{below_some, below_none, decimal_empty}
 use Rattle.parser.proofs.PlainLaws.{decimal_field_plain}
 use Rattle.parser.proofs.FieldLaws.{two_is, two_unparted, two_lacking}
 use Prim.Native.Nat.{◌^◌}
-use borrow.Author.Rules.{rules}
 use Rattle.parser.proofs.memory_lines.parse_address_and_number.Goals as goal
 
 pub returns-then-line-lt12 : goal.returns-then-line-lt12

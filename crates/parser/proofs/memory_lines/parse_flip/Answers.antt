@@ -1,6 +1,5 @@
 -- What `parse_address_and_number` says of any call is said of `flip`: the line is malformed, or has an address and a bit.
 use Rattle.calls.specs.Calls.{memory, flip}
-use borrow.Author.Rules.{rules}
 use Rattle.parser.proofs.memory_lines.parse_flip.Goals as goal
 
 pub returns-in-Malformed : goal.returns-in-Malformed

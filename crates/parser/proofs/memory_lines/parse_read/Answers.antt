@@ -1,6 +1,5 @@
 -- What `parse_address_and_number` says of any call is said of `read`: the line is malformed, or has an address and a count.
 use Rattle.calls.specs.Calls.{memory, read}
-use borrow.Author.Rules.{rules}
 use Rattle.parser.proofs.memory_lines.parse_read.Goals as goal
 
 pub returns-in-Malformed : goal.returns-in-Malformed

@@ -5,7 +5,6 @@ use Rattle.calls.specs.Calls.{memory, scrub}
 use Rattle.parser.proofs.DigitLaws.{below_some, below_none}
 use Rattle.parser.proofs.FormatLaws.{scrub_is, one_lacks}
 use Prim.Native.Nat.{◌^◌}
-use borrow.Author.Rules.{rules}
 use Rattle.parser.proofs.memory_lines.parse_scrub.Goals as goal
 
 pub returns-then-n-ne10 : goal.returns-then-n-ne10

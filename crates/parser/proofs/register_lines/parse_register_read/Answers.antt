@@ -4,7 +4,6 @@ use mathlib.Core.Path.{sym, ◌∙◌}
 use Rattle.calls.specs.Calls.{read_register}
 use Rattle.parser.proofs.DigitLaws.{below_some, below_none}
 use Rattle.parser.proofs.FormatLaws.{register_read_is, one_lacks}
-use borrow.Author.Rules.{rules}
 use Rattle.parser.proofs.register_lines.parse_register_read.Goals as goal
 
 pub returns-then-n-ne4 : goal.returns-then-n-ne4

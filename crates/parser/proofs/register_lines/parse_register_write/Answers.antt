@@ -8,7 +8,6 @@ use Rattle.parser.proofs.DigitLaws.{below_some, below_none, field_lacks}
 use Rattle.parser.proofs.PlainLaws.{hex_field_plain}
 use Rattle.parser.proofs.FieldLaws.{two_unparted, two_lacking}
 use Rattle.parser.proofs.FormatLaws.{register_write_is}
-use borrow.Author.Rules.{rules}
 use Rattle.parser.proofs.register_lines.parse_register_write.Goals as goal
 
 pub returns-then-n-ne7 : goal.returns-then-n-ne7

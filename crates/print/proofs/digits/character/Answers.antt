@@ -2,7 +2,6 @@
 use native.Mathlib.Omega.{arith}
 use borrow.Author.Tests.{lt-ltb, le-ltb}
 use Rattle.print.specs.Digits.{hex_character}
-use borrow.Author.Rules.{rules}
 use Rattle.print.proofs.digits.character.Goals as goal
 
 pub returns-then-d-lt10 : goal.returns-then-d-lt10

@@ -3,7 +3,6 @@ use native.Mathlib.Omega.{arith}
 use mathlib.Core.List.{[], ◌∷◌}
 use lib.ListN.{length-set}
 use Rattle.print.proofs.PrintLaws.{start_sets}
-use borrow.Author.Rules.{rules}
 use Rattle.print.proofs.text.accepted.Goals as goal
 
 pub bounds-out-1 : goal.bounds-out-1

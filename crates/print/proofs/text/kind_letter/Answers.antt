@@ -1,6 +1,5 @@
 -- The six cases of `kind_letter`.
 use Rattle.print.specs.Output.{kind_letter}
-use borrow.Author.Rules.{rules}
 use Rattle.print.proofs.text.kind_letter.Goals as goal
 
 pub returns-in-Clean : goal.returns-in-Clean

@@ -5,12 +5,10 @@ use mathlib.Core.List.{List, [], ◌∷◌, ◌++◌}
 use Prim.Native.Nat.{ℕ, ◌+◌}
 use lib.ListN.{length, take, length-set}
 use lib.Seq.{length-sets}
-use borrow.Author.Rules.{rules}
 use Rattle.basics.proofs.ListLaws.{sets_append}
 use Rattle.calls.specs.Answers.{kinds_in}
 use Rattle.print.specs.Output.{kinds_text}
 use Rattle.print.proofs.PrintLaws.{line_sets}
-use borrow.Author.Rules.{rules}
 use Rattle.print.proofs.text.kinds.Goals as goal
 
 -- the bytes before the kinds

@@ -11,7 +11,6 @@ use Rattle.calls.specs.Answers.{kinds_in}
 use Rattle.print.specs.Digits.{hex_pairs}
 use Rattle.print.specs.Output.{kinds_text}
 use Rattle.print.proofs.PrintLaws.{sets_more, line_sets, pairs_length}
-use borrow.Author.Rules.{rules}
 use Rattle.print.proofs.text.kinds_and_bytes.Goals as goal
 
 -- the bytes before the kinds

@@ -9,7 +9,6 @@ use Rattle.basics.proofs.ListLaws.{sets_append}
 use Rattle.print.specs.Digits.{decimal}
 use Rattle.print.specs.Output.{refused_text}
 use Rattle.print.proofs.PrintLaws.{line_sets}
-use borrow.Author.Rules.{rules}
 use Rattle.print.proofs.text.refused.Goals as goal
 
 -- the bytes before the number

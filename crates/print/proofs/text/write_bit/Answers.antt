@@ -4,7 +4,6 @@ use mathlib.Core.Path.{◌≡◌, refl, ◌∙◌}
 use Prim.Native.Nat.{suc, ◌+◌}
 use lib.ListN.{length-set}
 use Rattle.print.specs.Output.{bit_text}
-use borrow.Author.Rules.{rules}
 use Rattle.print.proofs.text.write_bit.Goals as goal
 
 pub write_decimal-requires : goal.write_decimal-requires

@@ -4,7 +4,6 @@ use mathlib.Core.Path.{◌≡◌, refl}
 use Prim.Native.Nat.{suc, ◌+◌}
 use lib.ListN.{length-set}
 use Rattle.print.proofs.PrintLaws.{decimal_one, decimal_two}
-use borrow.Author.Rules.{rules}
 use Rattle.print.proofs.text.write_decimal.Goals as goal
 
 pub returns-then-n-lt10 : goal.returns-then-n-lt10

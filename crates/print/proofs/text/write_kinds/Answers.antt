@@ -1,11 +1,11 @@
 -- The loop's invariant is `Written` of PrintLaws, which `part_written` carries on by a part. There are four parts at most (`least_le`), and those
 -- that were counted are all written (`take_least`).
-use Prim.Native.Nat.{◌+◌, ◌*◌, ◌-◌, ◌≤◌}
+use Prim.Native.Nat.{◌+◌}
 use native.Mathlib.Omega.{arith}
 use mathlib.Core.Path.{◌≡◌, refl, ◌∙◌}
 use lib.ListN.{length, take, set, length-set}
 use borrow.Author.Rules.{rules}
-use Rattle.print.proofs.PrintLaws.{Written, part_written, take_least, least_le}
+use Rattle.print.proofs.PrintLaws.{part_written, take_least, least_le}
 use Rattle.print.proofs.text.write_kinds.Goals as goal
 
 pub loop-i-init : goal.loop-i-init

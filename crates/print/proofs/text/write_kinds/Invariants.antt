@@ -1,9 +1,7 @@
 use Prim.Native.Nat.{◌+◌, ◌*◌, ◌-◌, ◌≤◌}
-use native.Mathlib.Omega.{arith}
-use mathlib.Core.Path.{◌≡◌, refl, ◌∙◌}
-use lib.ListN.{length, take, set, length-set}
-use borrow.Author.Rules.{rules}
-use Rattle.print.proofs.PrintLaws.{Written, part_written, take_least, least_le}
+use mathlib.Core.Path.{◌≡◌}
+use lib.ListN.{length}
+use Rattle.print.proofs.PrintLaws.{Written}
 use Rattle.print.proofs.text.write_kinds.Given as goal
 
 abbrev pub invariant-loop-i : goal.invariant-loop-i

@@ -1,9 +1,9 @@
 -- The loop's invariant: the digits of the first i bytes are stored. The next byte has two more (`pairs_next`), which follow them (`two_more`).
-use Prim.Native.Nat.{ℕ, ◌*◌, ◌-◌, ◌≤◌}
+use Prim.Native.Nat.{ℕ, ◌*◌}
 use native.Mathlib.Omega.{arith}
 use mathlib.Core.Path.{◌≡◌, refl, ap, ◌∙◌}
 use lib.ListN.{length, take, length-set}
-use lib.Seq.{sets, length-take-le, take-length}
+use lib.Seq.{length-take-le, take-length}
 use Rattle.print.specs.Digits.{hex_pairs}
 use Rattle.print.proofs.PrintLaws.{two_more, pairs_length, pairs_next}
 use Rattle.print.proofs.text.write_pairs.Goals as goal

@@ -1,10 +1,8 @@
-use Prim.Native.Nat.{ℕ, ◌*◌, ◌-◌, ◌≤◌}
-use native.Mathlib.Omega.{arith}
-use mathlib.Core.Path.{◌≡◌, refl, ap, ◌∙◌}
-use lib.ListN.{length, take, length-set}
-use lib.Seq.{sets, length-take-le, take-length}
+use Prim.Native.Nat.{◌-◌, ◌≤◌}
+use mathlib.Core.Path.{◌≡◌}
+use lib.ListN.{length, take}
+use lib.Seq.{sets}
 use Rattle.print.specs.Digits.{hex_pairs}
-use Rattle.print.proofs.PrintLaws.{two_more, pairs_length, pairs_next}
 use Rattle.print.proofs.text.write_pairs.Given as goal
 
 abbrev pub invariant-loop-i : goal.invariant-loop-i

@@ -8,7 +8,6 @@ use lib.ListN.{take, drop}
 use borrow.Rule.Slice.PartMut.{Post-is}
 use Rattle.ecc.specs.CheckCode.{flip_bit}
 use Rattle.ecc.specs.Lending.{cell_at, put_cell}
-use borrow.Author.Rules.{rules}
 use Rattle.stores.proofs.cells.flip_at.Goals as goal
 
 pub overflow_mul-a : goal.overflow_mul-a

@@ -1,7 +1,6 @@
 -- The bit is below 72 (`lt-ltb`), so that the byte of `flip_byte` is the one that `flip_bit` sets.
 use Rattle.ecc.specs.CheckCode.{flip_bit}
 use borrow.Author.Tests.{lt-ltb}
-use borrow.Author.Rules.{rules}
 use Rattle.stores.proofs.cells.invert.Goals as goal
 
 pub returns : goal.returns

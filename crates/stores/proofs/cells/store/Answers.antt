@@ -3,7 +3,6 @@ use mathlib.Core.Path.{ap, ◌∙◌}
 use mathlib.Core.List.{List}
 use Prim.Native.Nat.{ℕ}
 use Rattle.ecc.specs.Lending.{put_cell}
-use borrow.Author.Rules.{rules}
 use Rattle.stores.proofs.cells.store.Goals as goal
 
 pub put_cell-requires : goal.put_cell-requires
