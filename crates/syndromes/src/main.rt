@@ -2,18 +2,16 @@
 // library looks it up in. All entries have the same width, so that a line can be followed with a ruler.
 #![tactic(auto)]
 
+use std::io;
 use syndrome_table::{CLEAN, UNCORRECTABLE};
 
-fn end_line() {
-    io::write_all(1, b" |\n");
+fn end_line(rt: &impl Print) -> io::Result<()> {
+    println!(rt; " |")
 }
 
 // A flip bit, in two places.
-fn print_bit(bit: u8) {
-    if bit < 10 {
-        io::write_all(1, b" ");
-    }
-    io::print_decimal(1, bit as u64);
+fn print_bit(rt: &impl Print, bit: u8) -> io::Result<()> {
+    print!(rt; "{bit:2}")
 }
 
 fn column_of(columns: [u8; 64], bit: u8) -> u8 {
@@ -24,68 +22,61 @@ fn column_of(columns: [u8; 64], bit: u8) -> u8 {
 }
 
 // Eight flip bits stand in a line, after the number of the first.
-fn print_column(columns: [u8; 64], bit: u8) {
+fn print_column(rt: &impl Print, columns: [u8; 64], bit: u8) -> io::Result<()> {
     if bit % 8 == 0 {
-        io::write_all(1, b"| ");
-        print_bit(bit);
+        print!(rt; "| ")?;
+        print_bit(rt, bit)?;
     }
-    io::write_all(1, b" | ");
-    io::print_hex(1, column_of(columns, bit) as u64, 2);
+    let column = column_of(columns, bit);
+    print!(rt; " | {column:02x}")?;
     if bit % 8 == 7 {
-        end_line();
+        end_line(rt)?;
     }
+    Ok(())
 }
 
-fn print_columns() {
-    io::write_all(1, b"|    | +0 | +1 | +2 | +3 | +4 | +5 | +6 | +7 |\n");
-    io::write_all(1, b"|---:|---:|---:|---:|---:|---:|---:|---:|---:|\n");
+fn print_columns(rt: &impl Print) -> io::Result<()> {
+    println!(rt; "|    | +0 | +1 | +2 | +3 | +4 | +5 | +6 | +7 |")?;
+    println!(rt; "|---:|---:|---:|---:|---:|---:|---:|---:|---:|")?;
     let columns = ecc::columns::standard();
     for bit in 0..72u8 {
-        print_column(columns, bit);
+        print_column(rt, columns, bit)?;
     }
+    Ok(())
 }
 
-fn print_entry(entry: u8) {
+fn print_entry(rt: &impl Print, entry: u8) -> io::Result<()> {
     match entry {
-        CLEAN => {
-            io::write_all(1, b" n");
-        }
-        UNCORRECTABLE => {
-            io::write_all(1, b" u");
-        }
-        bit => print_bit(bit),
+        CLEAN => print!(rt; " n"),
+        UNCORRECTABLE => print!(rt; " u"),
+        bit => print_bit(rt, bit),
     }
 }
 
 // Sixteen syndromes stand in a line, after their high digit.
-fn print_syndrome(s: u8) {
+fn print_syndrome(rt: &impl Print, s: u8) -> io::Result<()> {
     if s % 16 == 0 {
-        io::write_all(1, b"| ");
-        io::print_hex(1, (s / 16) as u64, 1);
-        io::write_all(1, b"x");
+        let high = s / 16;
+        print!(rt; "| {high:x}x")?;
     }
-    io::write_all(1, b" | ");
-    print_entry(syndrome_table::entry(s));
+    print!(rt; " | ")?;
+    print_entry(rt, syndrome_table::entry(s))?;
     if s % 16 == 15 {
-        end_line();
+        end_line(rt)?;
     }
+    Ok(())
 }
 
-fn print_syndromes() {
-    io::write_all(
-        1,
-        b"|    | x0 | x1 | x2 | x3 | x4 | x5 | x6 | x7 | x8 | x9 | xa | xb | xc | xd | xe | xf |\n",
-    );
-    io::write_all(
-        1,
-        b"|---:|---:|---:|---:|---:|---:|---:|---:|---:|---:|---:|---:|---:|---:|---:|---:|---:|\n",
-    );
+fn print_syndromes(rt: &impl Print) -> io::Result<()> {
+    println!(rt; "|    | x0 | x1 | x2 | x3 | x4 | x5 | x6 | x7 | x8 | x9 | xa | xb | xc | xd | xe | xf |")?;
+    println!(rt; "|---:|---:|---:|---:|---:|---:|---:|---:|---:|---:|---:|---:|---:|---:|---:|---:|---:|")?;
     for s in 0..=255u8 {
-        print_syndrome(s);
+        print_syndrome(rt, s)?;
     }
+    Ok(())
 }
 
-fn main() {
-    print_columns();
-    print_syndromes();
+fn main(rt: HostRuntime) -> io::Result<()> {
+    print_columns(&rt)?;
+    print_syndromes(&rt)
 }

@@ -5,6 +5,7 @@
 use banks::{Column, Mapping, Place, Row};
 use refusals::Refusal;
 use registers::Registers;
+use std::io;
 use way_back::Origin;
 
 // The record after a register write. If the write is refused the record is unchanged, which shows in the lines printed.
@@ -42,86 +43,86 @@ fn worked_record() -> Registers {
     switch_on(set(spans, Registers::ROW_CODES, 4), 3)
 }
 
-fn print_number(name: &[u8], n: u32) {
-    io::write_all(1, name);
-    io::print_decimal(1, n as u64);
+fn print_number(rt: &impl Print, name: &str, n: u32) -> io::Result<()> {
+    print!(rt; "{name}{n}")
 }
 
-fn print_refusal(x: Refusal) {
-    print_number(b" refusal ", refusals::number(x) as u32);
+fn print_refusal(rt: &impl Print, x: Refusal) -> io::Result<()> {
+    print_number(rt, " refusal ", refusals::number(x) as u32)
 }
 
-fn print_place(p: Place) {
+fn print_place(rt: &impl Print, p: Place) -> io::Result<()> {
     let row = p.row;
     let column = p.column;
-    print_number(b" bank ", p.bank as u32);
-    print_number(b" row ", row.0);
-    print_number(b" column ", column.0);
-    print_number(b" cell ", p.cell);
+    print_number(rt, " bank ", p.bank as u32)?;
+    print_number(rt, " row ", row.0)?;
+    print_number(rt, " column ", column.0)?;
+    print_number(rt, " cell ", p.cell)
 }
 
-fn print_map(r: Registers, address: u32) {
-    io::print_hex(1, address as u64, 8);
+fn print_map(rt: &impl Print, r: Registers, address: u32) -> io::Result<()> {
+    print!(rt; "{address:08x}")?;
     let mapping = address_map::map(r, address);
     match mapping {
-        Mapping::Refused(x) => print_refusal(x),
-        Mapping::NoBank => {
-            io::write_all(1, b" no bank");
-        }
-        Mapping::At(p) => print_place(p),
+        Mapping::Refused(x) => print_refusal(rt, x)?,
+        Mapping::NoBank => print!(rt; " no bank")?,
+        Mapping::At(p) => print_place(rt, p)?,
     }
-    io::write_all(1, b"\n");
+    println!(rt;)
 }
 
-fn print_way_back(r: Registers, bank: u32, row: u32, column: u32) {
-    print_number(b"bank ", bank);
-    print_number(b" row ", row);
-    print_number(b" column ", column);
+fn print_way_back(
+    rt: &impl Print,
+    r: Registers,
+    bank: u32,
+    row: u32,
+    column: u32,
+) -> io::Result<()> {
+    print_number(rt, "bank ", bank)?;
+    print_number(rt, " row ", row)?;
+    print_number(rt, " column ", column)?;
     let origin = way_back::way_back(r, bank, Row(row), Column(column));
     match origin {
-        Origin::Refused(x) => print_refusal(x),
-        Origin::Address(a) => {
-            io::write_all(1, b" address ");
-            io::print_hex(1, a as u64, 8);
-        }
+        Origin::Refused(x) => print_refusal(rt, x)?,
+        Origin::Address(a) => print!(rt; " address {a:08x}")?,
     }
-    io::write_all(1, b"\n");
+    println!(rt;)
 }
 
 // A bank of two megabytes: its last address, and the one after it.
-fn print_end(last: u32, end: u32, next: u32) {
+fn print_end(rt: &impl Print, last: u32, end: u32, next: u32) -> io::Result<()> {
     let start = if 0 < last { last - 1 } else { 0 };
     let r = switch_on(set_span(Registers::fresh(), 0, start, last), 1);
-    print_number(b"bank 0 from MB ", start);
-    print_number(b" to ", last);
-    io::write_all(1, b"\n");
-    print_map(r, end);
-    print_map(r, next);
+    print_number(rt, "bank 0 from MB ", start)?;
+    print_number(rt, " to ", last)?;
+    println!(rt;)?;
+    print_map(rt, r, end)?;
+    print_map(rt, r, next)
 }
 
 // EX-12: a bank of 256 megabytes from megabyte 1 on, with row code 3.
-fn print_thirteen_rows() {
+fn print_thirteen_rows(rt: &impl Print) -> io::Result<()> {
     let span = set_span(Registers::fresh(), 0, 1, 256);
     let r = switch_on(set(span, Registers::ROW_CODES, 3), 1);
-    io::write_all(1, b"bank 0 from MB 1 to 256, row code 3\n");
-    print_map(r, 0x00100000);
-    print_map(r, 0x0fffffff);
-    print_map(r, 0x100fffff);
-    print_map(r, 0x10100000);
-    print_way_back(r, 0, 8191, 4095);
-    print_way_back(r, 0, 8192, 0);
+    println!(rt; "bank 0 from MB 1 to 256, row code 3")?;
+    print_map(rt, r, 0x00100000)?;
+    print_map(rt, r, 0x0fffffff)?;
+    print_map(rt, r, 0x100fffff)?;
+    print_map(rt, r, 0x10100000)?;
+    print_way_back(rt, r, 0, 8191, 4095)?;
+    print_way_back(rt, r, 0, 8192, 0)
 }
 
-fn main() {
+fn main(rt: HostRuntime) -> io::Result<()> {
     let r = worked_record();
-    print_map(r, 0x00001008);
-    print_map(r, 0x00200000);
-    print_map(r, 0x00400000);
-    print_map(r, 0x00500000);
-    print_way_back(r, 1, 0, 0);
-    print_way_back(r, 1, 256, 0);
-    print_end(255, 0x0fffffff, 0x10000000);
-    print_end(256, 0x100fffff, 0x10100000);
-    print_end(1023, 0x3fffffff, 0x40000000);
-    print_thirteen_rows();
+    print_map(&rt, r, 0x00001008)?;
+    print_map(&rt, r, 0x00200000)?;
+    print_map(&rt, r, 0x00400000)?;
+    print_map(&rt, r, 0x00500000)?;
+    print_way_back(&rt, r, 1, 0, 0)?;
+    print_way_back(&rt, r, 1, 256, 0)?;
+    print_end(&rt, 255, 0x0fffffff, 0x10000000)?;
+    print_end(&rt, 256, 0x100fffff, 0x10100000)?;
+    print_end(&rt, 1023, 0x3fffffff, 0x40000000)?;
+    print_thirteen_rows(&rt)
 }
