@@ -68,8 +68,12 @@ fn print_syndrome(rt: &impl Print, s: u8) -> io::Result<()> {
 }
 
 fn print_syndromes(rt: &impl Print) -> io::Result<()> {
-    println!(rt; "|    | x0 | x1 | x2 | x3 | x4 | x5 | x6 | x7 | x8 | x9 | xa | xb | xc | xd | xe | xf |")?;
-    println!(rt; "|---:|---:|---:|---:|---:|---:|---:|---:|---:|---:|---:|---:|---:|---:|---:|---:|---:|")?;
+    println!(rt;
+        "|    | x0 | x1 | x2 | x3 | x4 | x5 | x6 | x7 | x8 | x9 | xa | xb | xc | xd | xe | xf |"
+    )?;
+    println!(rt;
+        "|---:|---:|---:|---:|---:|---:|---:|---:|---:|---:|---:|---:|---:|---:|---:|---:|---:|"
+    )?;
     for s in 0..=255u8 {
         print_syndrome(rt, s)?;
     }
