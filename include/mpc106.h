@@ -2,7 +2,7 @@
  * mpc106.h - the memory side of the MPC106: registers, banks, cells and correction.
  *
  * Link with libmpc106.a (x86-64 Linux). `tools/install PREFIX` puts this header, the archive and a pkg-config
- * file in place; `rt staticlib mpc106` writes the archive alone, to target/staticlib/.
+ * file in place; `tools/prove mpc106` writes the archive alone, to crates/mpc106/out/.
  * The library keeps no state and allocates no memory: all state is in what the caller lends.
  * So calls that are lent different records and cells may run in different threads.
  *

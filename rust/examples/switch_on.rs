@@ -1,7 +1,7 @@
 //! Switches on two banks (bank 0: megabytes 0 to 1, 9 row bits; bank 1: megabytes 2 to 4, 10 row bits),
 //! writes, inverts bits, reads, loads an image, and prints the answers, just as `examples/switch_on.c` does.
 //!
-//! Run `rt staticlib mpc106` in the root of the repository, then `cargo run --example switch_on` in `rust/`.
+//! Run `tools/prove mpc106` in the root of the repository, then `cargo run --example switch_on` in `rust/`.
 use mpc106::{offset, Answer, Column, Kind, Memory, Record, Refusal, Row};
 
 fn kind_text(kind: Kind) -> String {

@@ -52,7 +52,7 @@ def of_reference(kind, where):
 
 def of_rattle(text):
     found = {}
-    pattern = r'#\[no_mangle\]\s*pub extern "C" fn (\w+)\s*\(([^)]*)\)\s*(?:->\s*(\w+))?'
+    pattern = r'#\[unsafe\(no_mangle\)\]\s*pub extern "C" fn (\w+)\s*\(([^)]*)\)\s*(?:->\s*(\w+))?'
     for name, parameters, returned in re.findall(pattern, without_comments(text)):
         listed = []
         for parameter, kind in map(named, parted(parameters)):

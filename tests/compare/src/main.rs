@@ -34,7 +34,7 @@ use tests::{Test, TESTS};
 const DEFAULT_SEED: u64 = 106;
 
 /// Relative to the folder of this package.
-const DEFAULT_BUSLINE: &str = "../../target/bin/busline";
+const DEFAULT_BUSLINE: &str = "../../crates/busline/out/busline";
 
 fn main() -> ExitCode {
     let seed = match seed() {
