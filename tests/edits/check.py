@@ -1,8 +1,9 @@
-"""The must-fail edits: which rule each breaks, where it is refused first, and what the prover's log says of it.
+"""The must-fail edits: which rule each breaks, where it is refused, and what rt says of it.
 
-An edit has a line `rule: ERR-2: what it does wrong`, which may name several rules with commas between them, and a line `fails: proofs/count/Proof.antt`
-with the file of its crate in which the first error stands. Each check takes the folder of a repository and returns its faults, a line of text each; no
-fault means that it passed.
+An edit has a line `rule: ERR-2: what it does wrong`, which may name several rules with commas between them, and a line `fails: proofs/count/Answers.antt`
+with the file of its crate in which the first error stands. A file in the folder of a function's proof, or that folder, stands for the function: an error
+in any file of the folder, or a note on the function's own text, is in it. Each check takes the folder of a repository and returns its faults, a line of
+text each; no fault means that it passed.
 """
 
 import re
@@ -10,13 +11,16 @@ from pathlib import Path
 
 SPECIFICATION = "docs/SPECIFICATION.md"
 
+# The lines of `rt ci` or `rt must-fail` about edits, one for each.
+LOG = "target/must-fail.log"
+
 RULE = r"[A-Z]+-[0-9]+"
 RULE_LINE = re.compile(rf"({RULE}(?:, {RULE})*)(?::| [-–—]) (\S+(?: \S+){{2,}})")
 DEMAND = "DEM-"
 PARTS = ("src", "specs", "proofs")
 
 
-# ---- edits and their logs
+# ---- edits and what was said of them
 
 
 def text(path):
@@ -40,42 +44,35 @@ def values(edit, key):
     return [line[len(key) + 1 :].strip() for line in text(edit).splitlines() if line.startswith(f"{key}:")]
 
 
-def log(root, edit):
-    return root / "target" / "must-fail" / crate(edit) / edit.stem / ".log"
+def said(root):
+    """From each edit to what rt said of it."""
+    return dict(re.findall(r"^rt: must-fail (\S+)\.edit: (.*)$", text(root / LOG), re.M))
 
 
-def is_untried(root, edit):
-    """The edit has no log, or one from before its crate was last changed."""
-    path = log(root, edit)
-    sources = [file for part in PARTS for file in (root / "crates" / crate(edit) / part).rglob("*") if file.is_file()]
-    return not text(path) or any(file.stat().st_mtime > path.stat().st_mtime for file in [edit, *sources])
+def is_tried(root):
+    """The log is newer than all that edits change or stand on."""
+    parts = (root / "crates" / one / part for one in dependencies(root) for part in (*PARTS, "must-fail"))
+    files = [root / "crates.txt", *(file for part in parts for file in part.rglob("*") if file.is_file())]
+    return (root / LOG).is_file() and all(file.stat().st_mtime <= (root / LOG).stat().st_mtime for file in files)
 
 
-def untried(root):
-    """The crates with edits that are to be tried."""
-    return sorted({crate(edit) for edit in edits(root) if is_untried(root, edit)})
+# ---- the first error, of which rt shows the beginning
+
+REFUSED = "refused, as it must be"
+FIRST = re.compile(rf"{REFUSED}: (note: )?(?:\./)?(\S+?):([0-9]+):[0-9]+: (?:error: )?(.*)")
 
 
-# ---- the first error of a log
-
-ERROR = re.compile(r"^(\S+?)(?::[0-9]+:[0-9]+)?: error: ", re.M)
-# A function without a proof file, which the prover is to prove by itself: its errors are notes about its source.
-NOTE = re.compile(r"^note: (\S+?):[0-9]+:[0-9]+: ", re.M)
-NEXT = re.compile(r"^(?! )", re.M)
+def first_error(words):
+    """The first error: its file, its line, what it says, and whether it is a note on a function; nothing if none is shown."""
+    found = FIRST.fullmatch(words)
+    return (found[2], int(found[3]), found[4], bool(found[1])) if found else None
 
 
-def first_error(root, edit):
-    """The first error: its file, with the path in the crate, what it says, and whether it is a note; nothing if the log has none."""
-    words = text(log(root, edit))
-    found = ERROR.search(words) or NOTE.search(words)
-    if not found:
-        return None
-    end = NEXT.search(words, found.end())
-    return place(edit, found[1]), words[found.end() : end.start() if end else None], found.re is NOTE
-
-
-def place(edit, path):
-    return path.rpartition(f"/must-fail/{name(edit)}/")[2]
+def first_errors(root):
+    """The edits with their first errors, those that have one."""
+    shown = said(root)
+    errors = ((edit, first_error(shown.get(name(edit), ""))) for edit in edits(root))
+    return [(edit, error) for edit, error in errors if error]
 
 
 # An error about a definition or a proof begins with its name; any other is about a text that cannot be read, or about a file that has no place.
@@ -86,7 +83,7 @@ MISFITS = {
     r"record `[^`]*`\s+has no field `": "a field that is not there",
     r"`[^`]*`\s+is not in scope|no constructor `": "a name that is not in scope",
     r"`[^`]*`\s+has no clause for": "a case without its clause",
-    r"expected type `\S*\bNeed-|expected type `[^`]*`,?\s+but this has type `\S*\bNeed-": "a proof given for something else",
+    r"expected type `\S*\bgoal\.|expected type `[^`]*`,?\s+but this has type `\S*\bgoal\.": "a proof given for something else",
     r"this is applied to an argument|this λ has [0-9]+ binders, but its type has room": "a wrong number of arguments",
     r"`[^`]*`\s+(?:was not admitted|cannot be unfolded because)": "something that was not admitted itself",
 }
@@ -104,6 +101,57 @@ def misfit(path, words, is_note):
     return next((what for pattern, what in MISFITS.items() if re.match(pattern, words[head.end() :])), None)
 
 
+# ---- places
+
+PROOF_FILES = ("Answers.antt", "Invariants.antt", "Proof.antt")
+
+
+def function(path):
+    """The folder below proofs/ of the function that a path stands for, or nothing: a folder, or a file that only such a folder has."""
+    parts = path.split("/")
+    if parts[0] != "proofs" or len(parts) < 2:
+        return None
+    folder = parts[1:-1] if parts[-1] in PROOF_FILES else [] if parts[-1].endswith(".antt") else parts[1:]
+    return "/".join(folder) or None
+
+
+def source(folder, of_function):
+    """The file of a crate's folder in which the function stands, and its name."""
+    *modules, last = of_function.split("/")
+    while modules and not (folder / "src" / f"{'/'.join(modules)}.rt").is_file():
+        modules.pop()
+    roots = ["/".join(modules)] if modules else ["lib", "main"]
+    return next((folder / "src" / f"{it}.rt" for it in roots if (folder / "src" / f"{it}.rt").is_file()), None), last
+
+
+FUNCTION = re.compile(r"\bfn (\w+)")
+
+
+def function_at(file, line):
+    """The function to which a line of a source file belongs: the last that begins there or above."""
+    names = FUNCTION.findall("\n".join(text(file).splitlines()[:line]))
+    return names[-1] if names else None
+
+
+def is_there(folder, path):
+    """The path names a file of a crate's folder, or a function of it."""
+    if not function(path):
+        return (folder / path).is_file()
+    file, last = source(folder, function(path))
+    return file is not None and last in FUNCTION.findall(text(file))
+
+
+def is_in(folder, path, error):
+    """An error stands in the file that a path names, or in the function that it stands for."""
+    found, line, _, is_note = error
+    if not function(path):
+        return found == path
+    if is_note:
+        file, last = source(folder, function(path))
+        return file == folder / found and function_at(file, line) == last
+    return found.rpartition("/")[0] == f"proofs/{function(path)}"
+
+
 # ---- crates
 
 
@@ -113,7 +161,7 @@ def dependencies(root):
     for line in text(root / "crates.txt").splitlines():
         head, colon, tail = line.partition("#")[0].partition(":")
         if colon:
-            found[head.strip()] = tail.split()
+            found[head.split()[0]] = tail.split()
     return found
 
 
@@ -193,31 +241,32 @@ def rules_near(root):
 
 
 def places(root):
-    """Each edit names a file of its crate as the one in which it is refused first, and it is."""
+    """Each edit names a file or a function of its crate as the one in which it is refused, and it is."""
     lines, faults = single(root, "fails")
+    errors = dict(first_errors(root))
     for edit, path in lines:
-        error = first_error(root, edit)
-        if not (root / "crates" / crate(edit) / path).is_file():
-            faults.append(f"{name(edit)}: its crate has no file '{path}'")
-        elif error and error[0] != path:
-            faults.append(f"{name(edit)}: the first error is in {error[0]} and not in {path}")
+        folder, error = root / "crates" / crate(edit), errors.get(edit)
+        if not is_there(folder, path):
+            faults.append(f"{name(edit)}: its crate has nothing at '{path}'")
+        elif error and not is_in(folder, path, error):
+            faults.append(f"{name(edit)}: the first error is at {error[0]}:{error[1]} and not in {path}")
     return faults
 
 
-def is_refused(root, edit):
-    return re.search(r"^logic=not-proved", text(log(root, edit)), re.M) and first_error(root, edit)
-
-
 def refused(root):
-    """Each edit has been tried, and its log has an error and says that it is not proved."""
-    return [f"{name(edit)} has no log of a refusal" for edit in edits(root) if not is_refused(root, edit)]
+    """Each edit has been tried and refused."""
+    shown = said(root)
+    results = ((edit, shown.get(name(edit), "not tried")) for edit in edits(root))
+    return [f"{name(edit)}: {words}" for edit, words in results if not words.startswith(REFUSED)]
 
 
 def facts(root):
-    """Each edit is refused for a fact, and not because something does not fit."""
-    errors = [(edit, first_error(root, edit)) for edit in edits(root)]
-    found = [(edit, error[0], misfit(*error)) for edit, error in errors if error]
-    return [f"{name(edit)}: the first error, in {path}, is {what}" for edit, path, what in found if what]
+    """Each edit is refused for a fact, and not because something does not fit or the prover met a limit."""
+    shown, errors = said(root), dict(first_errors(root))
+    without = ((edit, shown.get(name(edit), "")) for edit in edits(root) if edit not in errors)
+    faults = [f"{name(edit)}: {words}" for edit, words in without if words.startswith(REFUSED)]
+    found = [(edit, path, misfit(path, words, is_note)) for edit, (path, _, words, is_note) in errors.items()]
+    return faults + [f"{name(edit)}: the first error, in {path}, is {what}" for edit, path, what in found if what]
 
 
 CHECKS = {

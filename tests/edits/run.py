@@ -23,9 +23,8 @@ def report(results):
 def main(arguments):
     what = arguments[0] if arguments else "both"
     root = Path(arguments[1]) if len(arguments) > 1 else ROOT
-    if what == "--untried":
-        print(*check.untried(root))
-        return 0
+    if what == "--is-tried":
+        return 0 if check.is_tried(root) else 1
     results = []
     if what in ("both", "--check"):
         results += check.results(root)
