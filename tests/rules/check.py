@@ -18,7 +18,7 @@ WITHOUT_DEFINITION = {"DEM", "EX", "FORM"}
 # Where a rule may be cited, and must exist if it is. This test's own files are left out: they make rules up.
 CITING = ("crates", "tests", "docs", "include", "rust", "examples", "bench", "README.md")
 THIS_TEST = "tests/rules/"
-NOT_READ = {"target", ".git", "__pycache__", "Cargo.lock"}
+NOT_READ = {"target", "out", ".git", "__pycache__", "Cargo.lock"}
 
 # What looks like the number of a rule but is not.
 NO_RULES = {"UTF-8"}
@@ -222,7 +222,7 @@ def row_faults(root, rule, cells):
             if names is None:
                 yield f"{rule}: cannot read '{place}' in the column of {column}s"
                 continue
-            paths = [n for n in names if "/" in n and not n.startswith("_")]
+            paths = [n for n in names if "/" in n and not n.startswith("◌")]
             yield from (f"{rule}: there is no {p}" for p in paths if not (root / p).exists())
             crate, file = placed(root, place, crate)
             rest = [n for n in names if n not in paths]
@@ -255,7 +255,7 @@ def decisions(root):
 def listed(root):
     """The crates of crates.txt."""
     lines = (line.partition("#")[0] for line in text(root / "crates.txt").splitlines())
-    return [line.partition(":")[0].strip() for line in lines if ":" in line]
+    return [line.split()[0].rstrip(":") for line in lines if ":" in line]
 
 
 def described(root):

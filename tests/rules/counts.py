@@ -1,6 +1,6 @@
 """How often the crates do what they should not do, against the numbers stored in tests/rules/counts.txt, which only get smaller.
 
-unfolds CRATE  lines `unfolding ..` in the crate's proofs that name something of another crate, whose laws should do
+unfolds CRATE  lines `unfolding ..` in the crate's proofs, and `unfolding(..)` in its code, that name something of another crate, whose laws should do
 trusts CRATE   files of the crate's specs/ that a reader has to believe and that rest on a file Code*.antt, which serves contracts of code alone
 """
 
@@ -10,8 +10,8 @@ from collections import Counter
 STORED = "tests/rules/counts.txt"
 HEAD = "# Written by `tests/rules/run --write`; counts.py says what is counted. A crate that is not here has 0.\n"
 
-# `use Rattle·CRATE.place.{names}` or `use Rattle·CRATE.place as name`; a crate's own files are Rattle·CRATE·proofs or Rattle·CRATE·specs
-USE = re.compile(r"^\s*(?:pub\s+)?use\s+Rattle·(\w+)([^\s{]*?)(?:\.\{([^}]*)\}|\s+as\s+(\S+))", re.M)
+# `use Rattle.CRATE.place.{names}` or `use Rattle.CRATE.place as name`; the kit's libraries have paths of the same form
+USE = re.compile(r"^\s*(?:pub\s+)?use\s+Rattle\.(\w+)([^\s{]*?)(?:\.\{([^}]*)\}|\s+as\s+(\S+))", re.M)
 
 
 def crates(root):
@@ -22,22 +22,26 @@ def uncommented(path):
     return re.sub(r"--(?=\s|-).*", "", path.read_text(encoding="utf-8", errors="replace"))
 
 
-def foreign(crate, code):
+def foreign(others, code):
     """The names that a file brings in from other crates."""
     names = set()
     for other, _, braced, alias in USE.findall(code):
-        if other != crate:
+        if other in others:
             names |= {name.strip().split(" as ")[-1] for name in braced.split(",") if name.strip()} | ({alias} if alias else set())
     return names
 
 
 def unfolds(root, crate):
-    total = 0
+    total, others = 0, set(crates(root)) - {crate}
     for path in sorted((root / "crates" / crate / "proofs").rglob("*.antt")):
         code = uncommented(path)
-        names = foreign(crate, code)
+        names = foreign(others, code)
         for line in re.findall(r"^\s*unfolding\s+(.*)$", code, re.M):
             total += any(word in names or word.partition(".")[0] in names for word in line.split())
+    for path in sorted((root / "crates" / crate / "src").rglob("*.rt")):
+        code = re.sub(r"//.*", "", path.read_text(encoding="utf-8", errors="replace"))
+        for words in re.findall(r"\bunfolding\(([^)]*)\)", code):
+            total += any(word.strip().partition("::")[0] in others for word in words.split(","))
     return total
 
 

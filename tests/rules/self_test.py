@@ -8,7 +8,7 @@ import counts
 
 GOOD = {
     "crates.txt": """# the crates
-banks:
+banks staticlib:
 lists: banks  # lists of calls
 parser: banks
 print:
@@ -39,8 +39,8 @@ print:
 
 | Rule | Definitions | Functions | Theorems |
 |---|---|---|---|
-| MAP-1 | banks/Map: `selected`, `Spans` | `map`, `Row::new` | contract; CellLaws `one-bank` |
-| MAP-2 | banks/Map: `_else_` | | lists/Run: `run-laws`; Deeper/Laws: `more-laws` |
+| MAP-1 | banks/Map: `selected`, `Spans` | `map`, `Row::new` | contract; CellLaws `one_bank` |
+| MAP-2 | banks/Map: `◌else◌` | | lists/Run: `run_laws`; Deeper/Laws: `more_laws` |
 | FORM-1 | | banks: `Row`, `Mapping::NoBank`; lists/lib: `go` | |
 | EX-1 | | | `tests/compare` |
 """,
@@ -54,7 +54,7 @@ print:
 unfoldable pub selected : Setup → ℕ
 pub record Spans : Type 0 where
 -- MAP-2
-abbrev pub _else_ : A → A → A
+abbrev pub ◌else◌ : A → A → A
 """,
     "crates/banks/src/lib.rt": """// FORM-1: a tuple struct
 pub struct Row(pub u32);
@@ -70,22 +70,25 @@ impl Row {
 """,
     "crates/banks/specs/CodeFields.antt": "unfoldable pub fields : A\n",
     "crates/banks/proofs/CellLaws.antt": """-- unfolding outer
-use Rattle·banks·specs.specs.Map.{selected}
-pub one-bank : A ≡ A
+use Rattle.banks.specs.Map.{selected}
+pub one_bank : A ≡ A
 unfolding selected
 """,
-    "crates/parser/specs/Format.antt": "use Rattle·banks.specs.Map.{selected}\n",
-    "crates/print/proofs/PrintLaws.antt": """use Rattle·banks.specs.Map.{selected, _else_}
-use Rattle·lists.specs.Run as run
+    "crates/parser/specs/Format.antt": "use Rattle.banks.specs.Map.{selected}\n",
+    "crates/print/proofs/PrintLaws.antt": """use Rattle.banks.specs.Map.{selected, ◌else◌}
+use Rattle.std.specs.Prelude.{outer}
+use Rattle.lists.specs.Run as run
 printed : A
 unfolding selected own
-printed-more : A
+printed_outer : A
+unfolding outer
+printed_more : A
   unfolding run.go
 """,
     "tests/rules/counts.txt": "# a comment\nunfolds print 2\n",
-    "crates/lists/src/lib.rt": "fn go(n: u8)\n",
-    "crates/lists/proofs/Run.antt": "run-laws :\n",
-    "crates/lists/proofs/Deeper/Laws.antt": "pub more-laws : A\n",
+    "crates/lists/src/lib.rt": "#[tactic(auto, unfolding(lists::specs::Run::go, std::run))]\nfn go(n: u8)\n",
+    "crates/lists/proofs/Run.antt": "run_laws :\n",
+    "crates/lists/proofs/Deeper/Laws.antt": "pub more_laws : A\n",
     "tests/compare/run": "#!/bin/sh\n# EX-1 and UTF-8\n",
     "README.md": "What MAP-1 says.\n",
 }
@@ -113,20 +116,20 @@ BAD = {
     ],
     check.named: [
         ("a definition that does not exist", TABLE, "`selected`", "`selects`", "MAP-1: no definition `selects` in banks/Map"),
-        ("a definition in another file", TABLE, "Map: `_else_`", "Maps: `_else_`", "MAP-2: no definition `_else_` in banks/Maps"),
+        ("a definition in another file", TABLE, "Map: `◌else◌`", "Maps: `◌else◌`", "MAP-2: no definition `◌else◌` in banks/Maps"),
         ("a function that does not exist", TABLE, "`map`", "`mapp`", "MAP-1: no function `mapp` in banks"),
         ("a function in another crate", TABLE, "lists/lib: `go`", "`go`", "FORM-1: no function `go` in banks"),
         ("a function in another file", TABLE, "lists/lib: `go`", "lists/more: `go`", "FORM-1: no function `go` in lists/more"),
         ("a case that does not exist", TABLE, "Mapping::NoBank", "Mapping::No", "FORM-1: no function `Mapping::No` in banks"),
-        ("a theorem that does not exist", TABLE, "`one-bank`", "`a-bank`", "MAP-1: no theorem `a-bank` in banks/CellLaws"),
-        ("a theorem in another file", TABLE, "Deeper/Laws: ", "Laws: ", "MAP-2: no theorem `more-laws` in lists/Laws"),
+        ("a theorem that does not exist", TABLE, "`one_bank`", "`a_bank`", "MAP-1: no theorem `a_bank` in banks/CellLaws"),
+        ("a theorem in another file", TABLE, "Deeper/Laws: ", "Laws: ", "MAP-2: no theorem `more_laws` in lists/Laws"),
         ("a path that does not exist", TABLE, "tests/compare", "tests/compared", "EX-1: there is no tests/compared"),
-        ("a cell that cannot be read", TABLE, "contract; CellLaws", "a law", "MAP-1: cannot read 'a law `one-bank`' in the column of theorems"),
+        ("a cell that cannot be read", TABLE, "contract; CellLaws", "a law", "MAP-1: cannot read 'a law `one_bank`' in the column of theorems"),
     ],
     check.in_table: [
         ("a rule without a row", TABLE, "| EX-1 |", "| Example |", f"EX-1 has no rows in {TABLE}"),
         ("a rule with two rows", TABLE, "| EX-1 |", "| FORM-1 |", f"FORM-1 has 2 rows in {TABLE}"),
-        ("a row without a definition", TABLE, "banks/Map: `_else_`", "", "the row of MAP-2 names no definition"),
+        ("a row without a definition", TABLE, "banks/Map: `◌else◌`", "", "the row of MAP-2 names no definition"),
         ("a row with a cell too few", TABLE, "| EX-1 | |", "| EX-1 |", "the row of EX-1 has 3 cells and not 4"),
     ],
     check.decisions: [
@@ -139,7 +142,8 @@ BAD = {
         ("a crate that crates.txt leaves out", "crates.txt", "print:\n", "", "print stands in the table of crates and not in crates.txt"),
     ],
     counts.grown: [
-        ("a line more that unfolds", "crates/print/proofs/PrintLaws.antt", "printed-more : A\n", "printed-more : A\nunfolding _else_\n", GROWN.format("unfolds print: 3", 2)),
+        ("a line more that unfolds", "crates/print/proofs/PrintLaws.antt", "printed_more : A\n", "printed_more : A\nunfolding ◌else◌\n", GROWN.format("unfolds print: 3", 2)),
+        ("a function that unfolds", CODE, "pub fn map", "#[tactic(auto, unfolding(crate::a, lists::specs::Run::go))]\npub fn map", GROWN.format("unfolds banks: 1", 0)),
         ("a number that was lowered too far", COUNTS, "print 2", "print 1", GROWN.format("unfolds print: 2", 1)),
         ("a number that is not stored", COUNTS, "unfolds print 2\n", "", GROWN.format("unfolds print: 2", 0)),
         ("a definition that rests on a file for code", "crates/parser/specs/Format.antt", "Map.{selected}", "CodeFields.{fields}", GROWN.format("trusts parser: 1", 0)),
