@@ -3,8 +3,10 @@
 Each check takes the folder of a repository and returns its faults, a line of text each; no fault means that it passed.
 """
 
+import os
 import re
 from collections import Counter, defaultdict
+from pathlib import Path
 
 import counts
 
@@ -18,7 +20,7 @@ WITHOUT_DEFINITION = {"DEM", "EX", "FORM"}
 # Where a rule may be cited, and must exist if it is. This test's own files are left out: they make rules up.
 CITING = ("crates", "tests", "docs", "include", "rust", "examples", "bench", "README.md")
 THIS_TEST = "tests/rules/"
-NOT_READ = {"target", "out", ".git", "__pycache__", "Cargo.lock"}
+NOT_READ = {"target", ".git", "__pycache__", "Cargo.lock"}
 
 # What looks like the number of a rule but is not.
 NO_RULES = {"UTF-8"}
@@ -30,12 +32,23 @@ DECISION = re.compile(r"(?<![\w-])D-[0-9]+(?![\w-])")
 # ---- files
 
 
+def is_read(root, path):
+    """Not what was built: crates/NAME/out, say, which rt writes while this test runs."""
+    parts = path.relative_to(root).parts
+    return not NOT_READ & set(parts) and not (parts[0] == "crates" and parts[2:3] == ("out",))
+
+
+def below(root, start):
+    for folder, folders, names in os.walk(start):
+        folders[:] = [name for name in folders if is_read(root, Path(folder, name))]
+        yield from (path for path in (Path(folder, name) for name in names) if is_read(root, path))
+
+
 def files(root, *folders):
     """The files below folders of the repository, or those files themselves, but not the files of this test."""
     for start in (root / folder for folder in folders):
-        for path in [start] if start.is_file() else sorted(start.rglob("*")):
-            parts = set(path.relative_to(root).parts)
-            if path.is_file() and not NOT_READ & parts and not name_in(root, path).startswith(THIS_TEST):
+        for path in [start] if start.is_file() else sorted(below(root, start)):
+            if path.is_file() and not name_in(root, path).startswith(THIS_TEST):
                 yield path
 
 

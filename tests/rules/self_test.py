@@ -87,6 +87,8 @@ printed_more : A
 """,
     "tests/rules/counts.txt": "# a comment\nunfolds print 2\n",
     "crates/lists/src/lib.rt": "#[tactic(auto, unfolding(lists::specs::Run::go, std::run))]\nfn go(n: u8)\n",
+    "crates/lists/out/proofs/Run.antt": "-- MAP-77\n",
+    "crates/lists/proofs/out/go/Answers.antt": "-- MAP-1\n",
     "crates/lists/proofs/Run.antt": "run_laws :\n",
     "crates/lists/proofs/Deeper/Laws.antt": "pub more_laws : A\n",
     "tests/compare/run": "#!/bin/sh\n# EX-1 and UTF-8\n",
@@ -112,6 +114,7 @@ BAD = {
         ("a citation of no rule, in a definition", MAP, "-- MAP-2", "-- MAP-2, MAP-22", f"{MAP}:4: MAP-22 is no rule"),
         ("a citation of no rule, in code", CODE, "FORM-1", "FORM-3", f"{CODE}:1: FORM-3 is no rule"),
         ("a citation of no rule, in a document", "README.md", "MAP-1", "MAP-7", "README.md:1: MAP-7 is no rule"),
+        ("a citation of no rule, in a folder of proofs", "crates/lists/proofs/out/go/Answers.antt", "MAP-1", "MAP-8", "crates/lists/proofs/out/go/Answers.antt:1: MAP-8 is no rule"),
         ("a citation with an unknown prefix", TEST, "EX-1", "EXX-1", f"{TEST}:2: EXX-1 is no rule"),
     ],
     check.named: [
