@@ -112,7 +112,7 @@ def in_antt(text, names):
 
 def in_rt(text, names):
     # Contracts and imports: what stands in `ghost use` lines and between the braces of clauses. Elsewhere only camel case, which the code does not have.
-    camel = {old: new for old, new in names.items() if "-" not in old}
+    camel = {old: new for old, new in names.items() if re.search("[A-Z]", old)}
     out, ghost = [], False
     for line in text.split("\n"):
         if line.lstrip().startswith("//"):

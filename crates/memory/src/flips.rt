@@ -34,8 +34,8 @@ fn judge_bit(bit: u32) -> Verdict
 fn judge_flip(to: Route, bit: u32) -> Verdict
     ensures { paper_verdict result ≡ (by_bit bit else refuse (eqb (bank_in to) 8) (10 ∷ [])) }
 {
-    let by_bit_lem = judge_bit(bit);
-    match by_bit_lem {
+    let by_bit = judge_bit(bit);
+    match by_bit {
         Verdict::Accepted => {
             if bank_of(to) == NO_BANK {
                 return Verdict::Refused(Refusal::FlipWithoutBank);
