@@ -1,4 +1,4 @@
--- Runs of stores, each from where the one before it ends: they are one run (sets-append of ListLaws), which may fill the list (all-stored).
+-- Runs of stores, each from where the one before it ends: they are one run (sets_append of ListLaws), which may fill the list (all_stored).
 use mathlib.Core.Path.{◌≡◌, ◌∙◌}
 use mathlib.Core.List.{List, [], ◌++◌, append_assoc, append-nil}
 use Prim.Native.Nat.{ℕ, ◌+◌}

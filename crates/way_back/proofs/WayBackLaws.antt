@@ -28,7 +28,7 @@ cell_in_bank_at b row column = row.0 * 2 ^ b.column_bits + column.0
 abbrev pub doubleword_for : Bank → ℕ → ℕ
 doubleword_for b w = next (b.start * 2 ^ 17) (cells b) w
 
--- what `inRange` says
+-- what `in_range` says
 pub record InRange (b : Bank) (row : Row) (column : Column) : Type 0 where
   pub row_most : row.0 < 2 ^ b.row_bits
   pub column_most : column.0 < 2 ^ b.column_bits

@@ -1,4 +1,4 @@
--- No bank of a record reaches the last address (`last-route`), so its route tells the number of all cells.
+-- No bank of a record reaches the last address (`last_counted`), so its route tells the number of all cells.
 use Rattle.std.proofs.Common.{ℕ, ◌<◌, get_or, ap, ◌∙◌, w8, Fits, rules, le-ltb, lt-ltb}
 use Rattle.registers.specs.Record.{at}
 use Rattle.refusals.specs.Paper.{given}

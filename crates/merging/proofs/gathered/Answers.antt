@@ -1,5 +1,5 @@
 -- `gathered` makes one number of the bytes of a write. The loop's invariant: x is the number of the first i bytes, so that the next one goes above them
--- (begun_more of GatherLaws). Eight bytes are those of `number_at` (gathered-eight).
+-- (begun_more of GatherLaws). Eight bytes are those of `number_at` (gathered_eight).
 use mathlib.Core.Path.{◌≡◌, refl}
 use Prim.Native.Nat.{◌<◌}
 use native.Mathlib.Omega.{arith}

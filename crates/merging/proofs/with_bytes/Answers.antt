@@ -1,4 +1,4 @@
--- `with_bytes` merges the first bytes of a value into a doubleword: lanes-merge of LaneLaws, with the lanes that `lanes` gives.
+-- `with_bytes` merges the first bytes of a value into a doubleword: lanes_merge of LaneLaws, with the lanes that `lanes` gives.
 use Prim.Native.Nat.{◌%◌}
 use native.Mathlib.Omega.{arith}
 use Rattle.merging.proofs.LaneLaws.{lanes_merge}

@@ -1,4 +1,4 @@
--- The two shifted ones are the powers of two that `inRange` compares with, by `one_shl`.
+-- The two shifted ones are the powers of two that `in_range` compares with, by `one_shl`.
 use native.Mathlib.Omega.{arith}
 use Rattle.basics.proofs.Shifts.{one_shl}
 use Rattle.way_back.specs.WayBack.{in_range}

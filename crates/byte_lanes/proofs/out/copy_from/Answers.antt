@@ -1,4 +1,4 @@
--- `copy_from` fills the buffer from a byte of a doubleword on. Eight bytes are a run of stores (all-stored of ListLaws); for fewer the loop's invariant says
+-- `copy_from` fills the buffer from a byte of a doubleword on. Eight bytes are a run of stores (all_stored of ListLaws); for fewer the loop's invariant says
 -- that i of them are there (paste of lib.Seq, one more by paste-suc).
 use mathlib.Core.Path.{◌≡◌, refl, sym, ◌∙◌}
 use mathlib.Core.List.{append-nil}

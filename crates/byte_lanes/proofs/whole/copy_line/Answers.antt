@@ -1,4 +1,4 @@
--- `copy_line` fills 32 bytes with four doublewords: four runs of stores are one that fills the buffer (four-stored of StoreLaws).
+-- `copy_line` fills 32 bytes with four doublewords: four runs of stores are one that fills the buffer (four_stored of StoreLaws).
 use borrow.Author.Tests.{eq-eqb, ne_eqb}
 use Rattle.ecc.specs.Doubleword.{bytes_of_number}
 use Rattle.ecc.proofs.DoublewordLaws.{number_length}

@@ -1,4 +1,4 @@
--- `store_nine` fills the nine bytes of a cell: two runs of four stores and the last one are a run of nine (stored_on of StoreLaws, all-stored of ListLaws).
+-- `store_nine` fills the nine bytes of a cell: two runs of four stores and the last one are a run of nine (stored_on of StoreLaws, all_stored of ListLaws).
 use mathlib.Core.Path.{refl, ◌∙◌}
 use native.Mathlib.Omega.{arith}
 use borrow.Author.Tests.{eq-eqb, ne_eqb}
