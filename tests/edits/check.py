@@ -121,15 +121,29 @@ def source(folder, of_function):
     while modules and not (folder / "src" / f"{'/'.join(modules)}.rt").is_file():
         modules.pop()
     roots = ["/".join(modules)] if modules else ["lib", "main"]
-    return next((folder / "src" / f"{it}.rt" for it in roots if (folder / "src" / f"{it}.rt").is_file()), None), last
+    file = next((folder / "src" / f"{it}.rt" for it in roots if (folder / "src" / f"{it}.rt").is_file()), None)
+    # A method has its proofs in the folder of its type, and may stand in another file than the type.
+    is_method = any(part[:1].isupper() for part in of_function.split("/"))
+    if file and is_method and last not in FUNCTION.findall(text(file)):
+        others = [it for it in sorted((folder / "src").rglob("*.rt")) if last in FUNCTION.findall(text(it))]
+        file = others[0] if len(others) == 1 else file
+    return file, last
 
 
 FUNCTION = re.compile(r"\bfn (\w+)")
 
 
 def function_at(file, line):
-    """The function to which a line of a source file belongs: the last that begins there or above."""
-    names = FUNCTION.findall("\n".join(text(file).splitlines()[:line]))
+    """The function to which a line of a source file belongs: the last that begins there or above, or the one below if it is an attribute of that."""
+    lines = text(file).splitlines()
+    while line <= len(lines) and lines[line - 1].lstrip().startswith("#["):
+        brackets = 0
+        while line <= len(lines):
+            brackets += lines[line - 1].count("[") - lines[line - 1].count("]")
+            line += 1
+            if brackets <= 0:
+                break
+    names = FUNCTION.findall("\n".join(lines[:line]))
     return names[-1] if names else None
 
 

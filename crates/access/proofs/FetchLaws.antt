@@ -1,28 +1,27 @@
 -- A fetch, by what the code knows of its cell: not lent, clean, or read by its syndrome.
-use Prim.Native.Nat.{ℕ, ◌<◌}
-use mathlib.Core.Path.{◌≡◌, refl, sym, ap, ◌∙◌}
+use Prim.Native.Nat.{ℕ}
+use Rattle.std.specs.Prelude.{Some}
+use Rattle.std.specs.Prelude as code
+use mathlib.Core.Path.{◌≡◌, refl, sym, ap}
 use mathlib.Core.Bool.{Bool, true, false}
 use mathlib.Core.List.{List}
 use mathlib.Core.Option.{Option, none, some}
 use lib.ListN.{length, replicate, take}
 use Rattle.registers.specs.declared.Registers.{Registers}
 use Rattle.ecc.specs.Columns.{columns}
-use Rattle.ecc.specs.CheckCode.{syndrome_of, reading_of, flip_bit}
+use Rattle.ecc.specs.CheckCode.{syndrome_of, reading_of}
 use Rattle.ecc.specs.Cell.{right_by, load_of}
 use Rattle.ecc.specs.Doubleword.{bytes_of_number}
 use Rattle.ecc.specs.Lending.{cell_at, is_within, is_lent}
 use Rattle.ecc.proofs.CellLaws.{cell_length}
-use Rattle.ecc.proofs.DoublewordLaws.{number_length}
 use Rattle.ecc.proofs.Laws.{load_is, load_zero}
 use Rattle.error_registers.specs.Errors.{reported}
 use Rattle.calls.specs.declared.Kind.{Kind}
 use Rattle.calls.specs.declared.Kind.TheVariants.{Clean, NoBank}
 use Rattle.calls.specs.Calls.{AccessAnswer, got}
-use Rattle.calls.specs.CodeOutcomes.{kind_by}
 use Rattle.calls.specs.State.{State, state}
 use Rattle.machine.specs.Cells.{answer_of}
-use Rattle.access.specs.CodeAccess.{lent_cell, outcome_by, fetch_at}
-use Rattle.access.proofs.OutcomeLaws.{outcome_entry, outcome_kind, right_entry}
+use Rattle.access.specs.CodeAccess.{lent_cell, fetch_at}
 
 -- ---- the cell with a number
 
@@ -32,12 +31,10 @@ module _ (cells : List ℕ) (k : ℕ) where
   unfolding is_lent
   lent_by e = sym e
 
-  pub lent_some : is_lent cells k ≡ true → lent_cell cells k ≡ some k
-  unfolding lent_cell
+  pub lent_some : is_lent cells k ≡ true → lent_cell cells (Some k) ≡ some k
   lent_some t = rw t
 
-  pub lent_none : is_lent cells k ≡ false → lent_cell cells k ≡ none
-  unfolding lent_cell
+  pub lent_none : is_lent cells k ≡ false → lent_cell cells (Some k) ≡ none
   lent_none t = rw t
 
 -- ---- what a fetch gives and leaves, by its parts
@@ -57,29 +54,27 @@ module _ (st : State) (a : ℕ) (kind : Kind) (d : List ℕ) (r : Registers) whe
 
 -- ---- a fetch from it
 
+-- what a fetch from the cell that is meant gives and leaves
+abbrev pub Fetches : State → code.Option ℕ → ℕ → AccessAnswer → Registers → Type 0
+Fetches st o a g r = ◌≡◌ {A = AccessAnswer × State} (g, state r st.cells) (fetch_at (lent_cell st.cells o) st a)
+
+pub fetched_none : (st : State) (o : code.Option ℕ) (a : ℕ) → lent_cell st.cells o ≡ none → (r : Registers) → r ≡ reported NoBank a st.registers
+    → Fetches st o a (got NoBank (bytes_of_number 0xFFFFFFFFFFFFFFFF)) r
+unfolding fetch_at bytes_of_number
+fetched_none st o a t r reports = rw (t, reports)
+
 module _ (st : State) (k a : ℕ) where
   abbrev cell : List ℕ
   cell = cell_at st.cells k
 
-  abbrev Fetches : AccessAnswer → Registers → Type 0
-  Fetches g r = ◌≡◌ {A = AccessAnswer × State} (g, state r st.cells) (fetch_at (lent_cell st.cells k) st a)
-
-  pub fetched_none : is_lent st.cells k ≡ false → (r : Registers) → r ≡ reported NoBank a st.registers
-      → Fetches (got NoBank (bytes_of_number 0xFFFFFFFFFFFFFFFF)) r
-  unfolding fetch_at lent_cell bytes_of_number
-  fetched_none t r reports = rw (t, reports)
-
   pub fetched_clean : is_lent st.cells k ≡ true → (d : ℕ) → bytes_of_number d ≡ take 8 cell → syndrome_of columns cell ≡ 0
-      → Fetches (got Clean (bytes_of_number d)) st.registers
-  unfolding fetch_at lent_cell reported
+      → Fetches st (Some k) a (got Clean (bytes_of_number d)) st.registers
+  unfolding fetch_at reported
   fetched_clean t d is zero-there = rw (t, load_zero columns cell (bytes_of_number d) 0 (sym zero-there) refl is)
 
-  pub fetched_by : is_lent st.cells k ≡ true → (d x s : ℕ) → bytes_of_number d ≡ take 8 cell → s ≡ syndrome_of columns cell → s < 256
-      → bytes_of_number x ≡ flip_bit (bytes_of_number d) (outcome_by s) → (r : Registers) → r ≡ reported (kind_by (outcome_by s)) a st.registers
-      → Fetches (got (kind_by (outcome_by s)) (bytes_of_number x)) r
-  unfolding fetch_at lent_cell
-  fetched_by t d x s is q l put r reports =
-      let rd = reading_of columns s in
-      let right : bytes_of_number x ≡ right_by rd (bytes_of_number d) =
-      put ∙ ap (flip_bit (bytes_of_number d)) (outcome_entry s l) ∙ right_entry rd (bytes_of_number d) (number_length d) in
-      rw (t, reports, outcome_kind s l, right, ← load_is columns cell (bytes_of_number d) s rd (cell_length st.cells k t) is q refl)
+  pub fetched_by : is_lent st.cells k ≡ true → (d x s : ℕ) → bytes_of_number d ≡ take 8 cell → s ≡ syndrome_of columns cell
+      → bytes_of_number x ≡ right_by (reading_of columns s) (bytes_of_number d) → (r : Registers) → r ≡ reported (answer_of (reading_of columns s)) a st.registers
+      → Fetches st (Some k) a (got (answer_of (reading_of columns s)) (bytes_of_number x)) r
+  unfolding fetch_at
+  fetched_by t d x s is q put r reports =
+      rw (t, reports, put, ← load_is columns cell (bytes_of_number d) s (reading_of columns s) (cell_length st.cells k t) is q refl)

@@ -1,3 +1,3 @@
-pub mod OutcomeLaws
+pub mod ChunkLaws
 pub mod FetchLaws
 pub mod ReadLaws

@@ -1,42 +1,35 @@
 -- What the code of one access finds, gives and leaves. Only contracts of code use it.
-use Rattle.std.specs.Prelude.{ℕ, ◌%◌, Bool, true, false, cond, ◌||◌, List, eqb, replicate, take}
+use Rattle.std.specs.Prelude.{ℕ, ◌%◌, Bool, true, false, cond, List, replicate, take, Some, None}
+use Rattle.std.specs.Prelude as code
 use Rattle.std.proofs.Math.Option.{Option, none, some}
 use Rattle.registers.specs.declared.Registers.{Registers}
 use Rattle.ecc.specs.Columns.{columns}
-use Rattle.ecc.specs.CheckCode.{syndrome_of, reading_of}
+use Rattle.ecc.specs.CheckCode.{reading_of}
 use Rattle.ecc.specs.Cell.{load_of}
 use Rattle.ecc.specs.Doubleword.{bytes_of_number}
 use Rattle.ecc.specs.Lending.{cell_at, is_within, is_lent}
-use Rattle.syndrome_table.specs.CodeTable.{entry_of}
+use Rattle.ecc.specs.declared.Reading.{Reading}
 use Rattle.error_registers.specs.Errors.{reported}
 use Rattle.calls.specs.declared.Kind.{Kind}
 use Rattle.calls.specs.declared.Kind.TheVariants.{Clean, Corrected, Uncorrectable, Stored, NoBank, Flipped}
 use Rattle.calls.specs.Calls.{room, AccessAnswer, got}
-use Rattle.calls.specs.CodeOutcomes.{kind_by}
 use Rattle.calls.specs.State.{State, state}
 use Rattle.machine.specs.Cells.{answer_of}
-use Rattle.address_map.specs.CodeRoute.{no_cell}
 use Rattle.access.specs.declared.perform.Fetched.{Fetched}
 
--- MEM-11: the cell with this number, if all of it is lent
-unfoldable pub lent_cell : List ℕ → ℕ → Option ℕ
-lent_cell cells k = cond (is_lent cells k) (some k) none
+-- MEM-11: the cell that is meant, if all of it is lent
+abbrev pub lent_cell : List ℕ → code.Option ℕ → Option ℕ
+lent_cell cells None = none
+lent_cell cells (Some k) = cond (is_lent cells k) (some k) none
 
--- REF-9: cell k, or the number that stands for none, may be accessed if so many bytes are lent
-abbrev pub is_allowed : ℕ → ℕ → Bool
-is_allowed bytes k = eqb k no_cell || is_within bytes k
+-- REF-9: the cell that is meant, if one is, may be accessed if so many bytes are lent
+abbrev pub is_allowed : ℕ → code.Option ℕ → Bool
+is_allowed bytes None = true
+is_allowed bytes (Some k) = is_within bytes k
 
--- what an access finds: the syndrome of its cell, or 256 where no such cell is lent
-unfoldable pub found_at : List ℕ → ℕ → ℕ
-found_at cells k = cond (is_lent cells k) (syndrome_of columns (cell_at cells k)) 256
-
--- what that comes to
-unfoldable pub outcome_by : ℕ → ℕ
-outcome_by found = cond (eqb found 256) 74 (entry_of (reading_of columns (found % 256)))
-
--- that, and the record once it is reported at the address a
-abbrev pub settled_by : ℕ → ℕ → Registers → ℕ × Registers
-settled_by found a r = (outcome_by found, reported (kind_by (outcome_by found)) a r)
+-- what a syndrome means, and the record once that is reported at the address a
+abbrev pub settled_by : ℕ → ℕ → Registers → Reading × Registers
+settled_by s a r = (reading_of columns s, reported (answer_of (reading_of columns s)) a r)
 
 -- MEM-3, MEM-9, MEM-10: what reading all eight bytes of a cell gives, or without a cell, at the address a; the answer is reported
 unfoldable pub fetch_at : Option ℕ → State → ℕ → AccessAnswer × State
@@ -47,7 +40,7 @@ fetch_at (some k) st a =
 
 -- what was fetched, and the state that this left
 abbrev pub fetched_with : Fetched → State → AccessAnswer × State
-fetched_with f st = (got (kind_by f.outcome) (bytes_of_number f.doubleword), st)
+fetched_with f st = (got f.kind (bytes_of_number f.doubleword), st)
 
 -- MEM-5: the bytes of a short write that is handed over as a count and a number, the first byte lowest. Fewer than eight are taken, and none beyond the
 -- end of the doubleword

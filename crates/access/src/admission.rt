@@ -5,22 +5,26 @@ ghost use Rattle.address_map.specs.CodeRoute.{bank_in};
 ghost use Rattle.access.specs.CodeAccess.{is_allowed};
 
 use crate::cells::is_lent;
-use address_map::{NO_BANK, NO_CELL, Route, bank_of};
-use refusals::{Refusal, Verdict};
+use address_map::{NO_BANK, Route, bank_of};
+use refusals::Refusal;
 
 // 5, and otherwise the refusal, if any, by the arguments.
-pub fn admit(to: Route, arguments: Verdict) -> Verdict
+pub fn admit(to: Route, arguments: Result<(), Refusal>) -> Result<(), Refusal>
     ensures { paper_verdict result ≡ (refuse (ltb 8 (bank_in to)) (5 ∷ []) else paper_verdict arguments) }
 {
     if NO_BANK < bank_of(to) {
-        return Verdict::Refused(Refusal::NotReady);
+        return Err(Refusal::NotReady);
     }
     arguments
 }
 
 // REF-9, MEM-11: an access has no cell, or its cell is wholly lent.
-pub fn is_allowed(bytes: usize, k: usize) -> bool
+#[inline(always)]
+pub fn is_allowed(bytes: usize, k: Option<usize>) -> bool
     ensures { result ≡ is_allowed bytes k }
 {
-    (k == NO_CELL) | is_lent(bytes, k)
+    match k {
+        Some(k) => is_lent(bytes, k),
+        None => true,
+    }
 }

@@ -4,7 +4,7 @@ ghost use Rattle.refusals.specs.Paper.{paper_verdict};
 ghost use Rattle.calls.specs.Calls.{crosses, room};
 ghost use Rattle.calls.specs.Spans.{by_count};
 
-use refusals::{Refusal, Verdict};
+use refusals::Refusal;
 
 // How many addresses there are.
 const ADDRESSES: usize = 4294967296;
@@ -25,14 +25,14 @@ pub fn crosses_end(address: u32, count: usize) -> bool
 
 // REF-6, REF-7: the refusal, if any, of `count` bytes at an address. Only a split can pass the last address; the test that tells a split comes first,
 // so that the compiler drops the other where it is known.
-pub fn judge_count(address: u32, count: usize) -> Verdict
+pub fn judge_count(address: u32, count: usize) -> Result<(), Refusal>
     ensures { paper_verdict result ≡ by_count address count }
 {
     if (count == 0) | (8 < count) {
-        return Verdict::Refused(Refusal::CountOutOfRange);
+        return Err(Refusal::CountOutOfRange);
     }
     if crosses_end(address, count) & (ADDRESSES < address as usize + count) {
-        return Verdict::Refused(Refusal::PassesLastAddress);
+        return Err(Refusal::PassesLastAddress);
     }
-    Verdict::Accepted
+    Ok(())
 }

@@ -1,7 +1,9 @@
-// The cells that a caller lends: whether cell k is among them, and how it is read.
-ghost use Rattle.std.specs.Prelude.{◌≡◌, true, length, get_or, take};
+// The cells that a caller lends: whether cell k is among them, and its bytes.
+ghost use Rattle.std.specs.Prelude.{◌≡◌, ℕ, true, take, Some, MatchOption};
+ghost use Rattle.std.proofs.Math.Option.{none};
 ghost use Rattle.ecc.specs.Doubleword.{bytes_of_number};
 ghost use Rattle.ecc.specs.Lending.{cell_at, is_within, is_lent};
+ghost use Rattle.access.specs.CodeAccess.{lent_cell};
 
 // REF-9: all nine bytes of cell k are among so many that are lent. One comparison, which no large number gets past.
 pub fn is_lent(bytes: usize, k: usize) -> bool
@@ -10,27 +12,16 @@ pub fn is_lent(bytes: usize, k: usize) -> bool
     k < bytes / 9
 }
 
-// Eight lent bytes as a doubleword.
-fn joined(bytes: &[u8]) -> u64
-    requires { length bytes.now ≡ 8 }
-    ensures { bytes_of_number result ≡ bytes.now }
+// Cell k as it is stored, if there is one and it is lent.
+pub(crate) fn cell(cells: &[u8], k: Option<usize>) -> Option<&[u8; 9]>
+    ensures { MatchOption result (lent_cell cells.now k ≡ none) (λ cell. (j : ℕ) × (k ≡ Some j) × (is_lent cells.now j ≡ true) × (cell.now ≡ cell_at cells.now j)) }
 {
-    eight_bytes::number_at(bytes, 0)
+    cells.as_chunks().0.get(k?)
 }
 
-// The data bytes of cell k as they are stored, as a doubleword.
-pub(crate) fn doubleword_at(cells: &[u8], k: usize) -> u64
-    requires { is_lent cells.now k ≡ true }
-    ensures { bytes_of_number result ≡ take 8 (cell_at cells.now k) }
+// The data bytes of a cell, as a doubleword.
+pub(crate) fn doubleword(cell: &[u8; 9]) -> u64
+    ensures { bytes_of_number result ≡ take 8 cell.now }
 {
-    let a = 9 * k;
-    joined(&cells[a..a + 8])
-}
-
-// The check byte that is stored in cell k.
-pub(crate) fn check_at(cells: &[u8], k: usize) -> u8
-    requires { is_lent cells.now k ≡ true }
-    ensures { result ≡ get_or (cell_at cells.now k) 8 0 }
-{
-    cells[9 * k + 8]
+    eight_bytes::number_at(cell, 0)
 }

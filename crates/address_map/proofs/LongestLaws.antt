@@ -1,9 +1,10 @@
 -- ON-3: the longest bank of each row code, and 12 or 13 of a bank by one comparison with it.
-use Rattle.std.proofs.Common.{◌≡◌, ℕ, zero, suc, ◌+◌, ◌-◌, ◌%◌, ◌^◌, ◌<◌, ◌≤◌, ltb, leb, List, [], ◌∷◌, get_or, sym, refl, ◌∙◌, arith, ltb-false, ltb-true, le-leb, leb-false, leb-true}
+use Rattle.std.proofs.Common.{◌≡◌, ℕ, zero, suc, ◌+◌, ◌-◌, ◌%◌, ◌^◌, ◌<◌, ◌≤◌, ltb, leb, [], ◌∷◌, get_or, sym, refl, ◌∙◌, arith, ltb-false, ltb-true, le-leb, leb-false, leb-true}
 use borrow.Author.Tests.{lt-leb}
 use Rattle.basics.proofs.RangeLaws.{by_cases}
 use Rattle.banks.specs.Setup.{megabytes, row_bits_of, fits, column_limit}
 use Rattle.banks.specs.Judge.{inverted, too_long, faulty}
+use Rattle.address_map.specs.declared.fields.Fields.{Fields}
 use Rattle.address_map.specs.CodeFields.{code_by, longest_of, enabled_by}
 use Rattle.banks.proofs.FieldLaws.{fits_in}
 use Rattle.address_map.proofs.SetupLaws.{code_below}
@@ -43,12 +44,12 @@ fits_longest (suc (suc (suc zero))) L h =
 fits_longest (suc (suc (suc (suc k)))) L h = absurd (omega arith)
 
 -- w is the last megabyte of bank n less its start, modulo 2 ^ 32
-module _ (f : List ℕ) (n w : ℕ) (x : get_or f n 0 < 2 ^ 16) (y : get_or f (8 + n) 0 < 2 ^ 16) (v : w < 2 ^ 32) (d : (w + get_or f n 0) % 2 ^ 32 ≡ get_or f (8 + n) 0) where
+module _ (f : Fields) (n w : ℕ) (x : get_or f.starts n 0 < 2 ^ 16) (y : get_or f.lasts n 0 < 2 ^ 16) (v : w < 2 ^ 32) (d : (w + get_or f.starts n 0) % 2 ^ 32 ≡ get_or f.lasts n 0) where
   pub faulty_is : faulty (enabled_by f n) ≡ leb (longest_of (code_by f n)) w
   unfolding faulty inverted too_long enabled_by megabytes
   faulty_is =
-      let start = get_or f n 0 in
-      let last = get_or f (8 + n) 0 in
+      let start = get_or f.starts n 0 in
+      let last = get_or f.lasts n 0 in
       let m = longest_of (code_by f n) in
       let most = longest_most (code_by f n) (code_below f n) in
       by_cases (ltb last start)

@@ -1,11 +1,12 @@
 -- Whether banks meet, from a comparison of every pair.
-use Rattle.std.proofs.Common.{◌≡◌, ℕ, ◌+◌, ◌<◌, Bool, true, not, ◌&&◌, ltb, leb, List, get_or, sym, refl, ◌∙◌, add-one, arith, ltb-false, ltb-true, le-leb}
+use Rattle.std.proofs.Common.{◌≡◌, ℕ, ◌+◌, ◌<◌, Bool, true, not, ◌&&◌, ltb, leb, get_or, sym, refl, ◌∙◌, add-one, arith, ltb-false, ltb-true, le-leb}
 use borrow.Author.Tests.{lt-leb, not-true}
 use Rattle.basics.specs.Range.{first, every}
 use Rattle.basics.proofs.RangeLaws.{by_cases, contra, first_passes, first_before, every_at, every_all}
 use Rattle.basics.proofs.Zeros.{is_set}
 use Rattle.banks.specs.Setup.{Setup, bank}
 use Rattle.banks.specs.Judge.{meets, meets_lower, lowest_meeting}
+use Rattle.address_map.specs.declared.fields.Fields.{Fields}
 use Rattle.address_map.specs.CodeFields.{enabled_by, bank_by, setup_by}
 use Rattle.address_map.proofs.SetupLaws.{bank_by_lem}
 
@@ -37,14 +38,14 @@ leb_not n f = by_cases (ltb f n) (λ t. rw (t, lt-leb n f (ltb-true f n t))) (λ
 
 -- ---- pairs of banks
 pub meeting_in :
-    (f : List ℕ) (n m : ℕ) → n < 8 → m < 8
-    → (((bank (setup_by f) n).enabled && (bank (setup_by f) m).enabled) && (leb (get_or f m 0) (get_or f (8 + n) 0) && leb (get_or f n 0) (get_or f (8 + m) 0)))
+    (f : Fields) (n m : ℕ) → n < 8 → m < 8
+    → (((bank (setup_by f) n).enabled && (bank (setup_by f) m).enabled) && (leb (get_or f.starts m 0) (get_or f.lasts n 0) && leb (get_or f.starts n 0) (get_or f.lasts m 0)))
     ≡ ((bank (setup_by f) n).enabled && meets (bank (setup_by f) n) (bank (setup_by f) m))
 unfolding meets bank_by enabled_by
 meeting_in f n m l k =
     rw (bank_by_lem f n l, bank_by_lem f m k)
-    (by_cases (is_set (get_or f 16 0) n)
-    (λ t. by_cases (is_set (get_or f 16 0) m) (λ u. rw (t, u)) (λ u. rw (t, u)))
+    (by_cases (is_set f.enables n)
+    (λ t. by_cases (is_set f.enables m) (λ u. rw (t, u)) (λ u. rw (t, u)))
     (λ t. rw t))
 
 pub clear_is : (s : Setup) (n : ℕ) → every (λ m. not ((bank s n).enabled && meets (bank s n) (bank s m))) n ≡ not (meets_lower s n)

@@ -1,5 +1,6 @@
 -- One pass over the enabled banks: what holds of the banks that it has passed, and what it finds in the end.
-use Rattle.std.proofs.Common.{◌≡◌, ℕ, zero, suc, ◌+◌, ◌-◌, ◌*◌, ◌%◌, ◌^◌, ◌<◌, ◌≤◌, Bool, true, false, cond, ◌&&◌, ◌||◌, eqb, ltb, leb, ◌⊎◌, List, [], ◌∷◌, get_or, sym, refl, ap, ◌∙◌, subst, inl, inr, ⊎_elim, arith, pow_mono, ltb-false, ltb-true, le-ltb, ne_eqb}
+use Rattle.std.specs.Prelude.{Some, None, is_none}
+use Rattle.std.proofs.Common.{◌≡◌, ℕ, zero, suc, ◌+◌, ◌-◌, ◌*◌, ◌%◌, ◌^◌, ◌<◌, ◌≤◌, Bool, true, false, cond, ◌&&◌, ◌||◌, eqb, ltb, leb, ◌⊎◌, [], ◌∷◌, get_or, sym, refl, ap, ◌∙◌, subst, inl, inr, ⊎_elim, arith, pow_mono, ltb-false, ltb-true, le-ltb, ne_eqb}
 use mathlib.Core.Option.{none, some}
 use lib.Bits.{bit_and, and_le_l, and_le_r}
 use lib.Count.{count_trailing_zeros}
@@ -12,6 +13,7 @@ use Rattle.refusals.specs.Paper.{given, ◌gives◌}
 use Rattle.banks.specs.Setup.{most_row_bits, most_column_bits, Setup, bank, off_bank}
 use Rattle.banks.specs.Judge.{lowest, is_enabled, inverted, too_long, faulty, meets, meets_lower, lowest_meeting, judged, ready, not_ready}
 use Rattle.banks.specs.Map.{most_cells, holds, bank_at, cells, share, cells_below, cell_count}
+use Rattle.address_map.specs.declared.fields.Fields.{Fields}
 use Rattle.address_map.specs.CodeFields.{bank_by, enabled_by, setup_by}
 use Rattle.address_map.specs.CodeSelection.{megabyte_bits, bits_unless_faulty, selection}
 use Rattle.address_map.specs.CodeRoute.{route_by, bank_in, first_in, bits_in, paper_route}
@@ -168,28 +170,28 @@ module _ (s : Setup) (mb : ℕ) where
           }
 
 -- ---- the pass over the fields
-pub enabled_at : (f : List ℕ) (k : ℕ) → k < 8 → (bank (setup_by f) k).enabled ≡ is_set (get_or f 16 0) k
+pub enabled_at : (f : Fields) (k : ℕ) → k < 8 → (bank (setup_by f) k).enabled ≡ is_set f.enables k
 unfolding bank_by enabled_by
 enabled_at f k l =
-    rw (bank_by_lem f k l) (by_cases (is_set (get_or f 16 0) k) (λ t. rw t) (λ t. rw t))
+    rw (bank_by_lem f k l) (by_cases (is_set f.enables k) (λ t. rw t) (λ t. rw t))
 
-pub bank_on_lem : (f : List ℕ) (k : ℕ) → k < 8 → (bank (setup_by f) k).enabled ≡ true → bank (setup_by f) k ≡ enabled_by f k
+pub bank_on_lem : (f : Fields) (k : ℕ) → k < 8 → (bank (setup_by f) k).enabled ≡ true → bank (setup_by f) k ≡ enabled_by f k
 unfolding bank_by
 bank_on_lem f k l on = rw (bank_by_lem f k l, sym (enabled_at f k l) ∙ on)
 
 -- no bank above 7 is enabled
-pub enabled_below : (f : List ℕ) (k : ℕ) → (bank (setup_by f) k).enabled ≡ true → k < 8
+pub enabled_below : (f : Fields) (k : ℕ) → (bank (setup_by f) k).enabled ≡ true → k < 8
 enabled_below f k on =
     by_cases (ltb k 8) (λ t. ltb-true k 8 t) (λ t. contra on (rw (bank_past f k (ltb-false k 8 t))))
 
-pub bank_off_lem : (f : List ℕ) (k : ℕ) → (bank (setup_by f) k).enabled ≡ false → bank (setup_by f) k ≡ off_bank
+pub bank_off_lem : (f : Fields) (k : ℕ) → (bank (setup_by f) k).enabled ≡ false → bank (setup_by f) k ≡ off_bank
 unfolding bank_by
 bank_off_lem f k off =
     by_cases (ltb k 8) (λ t. let l = ltb-true k 8 t in rw (bank_by_lem f k l, sym (enabled_at f k l) ∙ off))
     (λ t. bank_past f k (ltb-false k 8 t))
 
 -- the enable bit, by one test for every number
-pub enabled_is : (f : List ℕ) (k : ℕ) → (ltb k 8 && is_set (get_or f 16 0) (k % 8)) ≡ (bank (setup_by f) k).enabled
+pub enabled_is : (f : Fields) (k : ℕ) → (ltb k 8 && is_set f.enables (k % 8)) ≡ (bank (setup_by f) k).enabled
 enabled_is f k =
     by_cases (ltb k 8)
     (λ t.
@@ -198,25 +200,25 @@ enabled_is f k =
     rw (t, e, enabled_at f k l))
     (λ t. rw (t, bank_past f k (ltb-false k 8 t)))
 
--- 12 or 13 applies to an enabled bank whose bits stand for that
-pub faulty_by : (f : List ℕ) (k : ℕ) → (bank (setup_by f) k).enabled ≡ true → eqb (bits_unless_faulty (enabled_by f k)) 32 ≡ faulty (bank (setup_by f) k)
+-- 12 or 13 applies to an enabled bank that has no size
+pub faulty_by : (f : Fields) (k : ℕ) → (bank (setup_by f) k).enabled ≡ true → is_none (bits_unless_faulty (enabled_by f k)) ≡ faulty (bank (setup_by f) k)
 faulty_by f k on = rw (bank_on_lem f k (enabled_below f k on) on) (faulty_stands f k)
 
 -- the banks below some n are passed, and the bits of the others are left
-pub record Going (f : List ℕ) (mb rest b k z base end ascent : ℕ) : Type 0 where
+pub record Going (f : Fields) (mb rest b k z base end ascent : ℕ) : Type 0 where
   pub n : ℕ
-  pub left : Rest (get_or f 16 0) rest n
+  pub left : Rest f.enables rest n
   pub passed : Passed (setup_by f) mb n b k z base end ascent
 
-pub going_start : (f : List ℕ) → get_or f 16 0 < 256 → (mb end ascent : ℕ) → Going f mb (get_or f 16 0) 8 0 0 0 end ascent
+pub going_start : (f : Fields) → f.enables < 256 → (mb end ascent : ℕ) → Going f mb f.enables 8 0 0 0 end ascent
 going_start f h mb end ascent =
-    record { n = 0; left = rest_whole (get_or f 16 0) h; passed = passed_start (setup_by f) mb end ascent }
+    record { n = 0; left = rest_whole f.enables h; passed = passed_start (setup_by f) mb end ascent }
 
 -- some bank is enabled exactly if some bit is set
-pub some_enabled : (f : List ℕ) → get_or f 16 0 < 256 → ((get_or f 16 0 ≡ 0) → ⊥) → lowest is_enabled (setup_by f) < 8
+pub some_enabled : (f : Fields) → f.enables < 256 → ((f.enables ≡ 0) → ⊥) → lowest is_enabled (setup_by f) < 8
 unfolding lowest
 some_enabled f h z =
-    let e = get_or f 16 0 in
+    let e = f.enables in
     let w = rest_whole e h in
     let b = next_below e e 0 w z in
     let m = first (λ k. is_enabled (bank (setup_by f) k)) 8 0 in
@@ -225,20 +227,20 @@ some_enabled f h z =
     contra (enabled_at f (count_trailing_zeros 32 e) b ∙ next_on e e 0 w z)
     (first_before (λ k. is_enabled (bank (setup_by f) k)) 8 0 (count_trailing_zeros 32 e) (omega arith) (omega (arith, b, ltb-false m 8 t))))
 
-pub none_enabled : (f : List ℕ) → get_or f 16 0 < 256 → get_or f 16 0 ≡ 0 → 8 ≤ lowest is_enabled (setup_by f)
+pub none_enabled : (f : Fields) → f.enables < 256 → f.enables ≡ 0 → 8 ≤ lowest is_enabled (setup_by f)
 unfolding lowest
 none_enabled f h z =
-    let e = get_or f 16 0 in
+    let e = f.enables in
     let q = first_at (λ k. is_enabled (bank (setup_by f) k)) 8 0 8 (omega arith) (omega arith) (λ w. absurd (omega arith))
     (λ j l k. enabled_at f j k ∙ rest_none e e 0 (rest_whole e h) z j l k) in
     omega (arith, q)
 
-module _ {f : List ℕ} {mb rest b k z base end ascent : ℕ} (g : Going f mb rest b k z base end ascent) where
+module _ {f : Fields} {mb rest b k z base end ascent : ℕ} (g : Going f mb rest b k z base end ascent) where
   -- no bits are left
   pub going_end : rest ≡ 0 → Passed (setup_by f) mb 8 b k z base end ascent
   going_end e =
       passed_skip (setup_by f) mb g.n b k z base end ascent g.passed 8 g.passed.most (omega arith)
-      (λ j x y. enabled_at f j y ∙ rest_none (get_or f 16 0) rest g.n g.left e j x y)
+      (λ j x y. enabled_at f j y ∙ rest_none f.enables rest g.n g.left e j x y)
 
   -- the lowest bit left is that of bank m
   module _ (some : (rest ≡ 0) → ⊥) where
@@ -246,97 +248,92 @@ module _ {f : List ℕ} {mb rest b k z base end ascent : ℕ} (g : Going f mb re
     m = count_trailing_zeros 32 rest
 
     pub below_eight : m < 8
-    below_eight = next_below (get_or f 16 0) rest g.n g.left some
+    below_eight = next_below f.enables rest g.n g.left some
 
     pub same_here : m % 8 ≡ m
     same_here = omega (arith, below_eight)
 
     passed_here : Passed (setup_by f) mb m b k z base end ascent
     passed_here =
-        passed_skip (setup_by f) mb g.n b k z base end ascent g.passed m (next_from (get_or f 16 0) rest g.n g.left some) (omega (arith, below_eight))
-        (λ j x y. enabled_at f j (omega (arith, below_eight)) ∙ next_off (get_or f 16 0) rest g.n g.left some j x y)
+        passed_skip (setup_by f) mb g.n b k z base end ascent g.passed m (next_from f.enables rest g.n g.left some) (omega (arith, below_eight))
+        (λ j x y. enabled_at f j (omega (arith, below_eight)) ∙ next_off f.enables rest g.n g.left some j x y)
 
     small_here : base ≤ 7 * most_cells
     small_here = omega (arith, passed_here.small, below_eight)
 
     enabled_here : (bank (setup_by f) m).enabled ≡ true
-    enabled_here = enabled_at f m below_eight ∙ next_on (get_or f 16 0) rest g.n g.left some
+    enabled_here = enabled_at f m below_eight ∙ next_on f.enables rest g.n g.left some
 
     bank_here : bank (setup_by f) m ≡ enabled_by f m
     bank_here = bank_on_lem f m below_eight enabled_here
 
-    starts_here : (bank (setup_by f) m).start ≡ get_or f m 0
+    starts_here : (bank (setup_by f) m).start ≡ get_or f.starts m 0
     unfolding enabled_by
     starts_here = rw bank_here
 
-    ends_here : (bank (setup_by f) m).last ≡ get_or f (8 + m) 0
+    ends_here : (bank (setup_by f) m).last ≡ get_or f.lasts m 0
     unfolding enabled_by
     ends_here = rw bank_here
 
-    module _ {bits : ℕ} (sized : bits ≡ bits_unless_faulty (enabled_by f (m % 8))) where
-      e : bits ≡ bits_unless_faulty (enabled_by f m)
-      e = rw same_here at sized
+    sane_is : is_none (bits_unless_faulty (enabled_by f (m % 8))) ≡ faulty (bank (setup_by f) m)
+    sane_is = rw same_here (faulty_by f m enabled_here)
 
-      -- 32 bits stand for a faulty bank
-      pub faulty_here : bits ≡ 32 → lowest faulty (setup_by f) < 8
-      unfolding bits_unless_faulty lowest
-      faulty_here w =
-          by_cases (faulty (bank (setup_by f) m))
-          (λ v.
-          let i = first (λ j. faulty (bank (setup_by f) j)) 8 0 in
-          by_cases (ltb i 8) (λ u. ltb-true i 8 u)
-          (λ u. contra v (first_before (λ j. faulty (bank (setup_by f) j)) 8 0 m (omega arith) (omega (arith, below_eight, ltb-false i 8 u)))))
-          (λ v.
+    -- a faulty bank has no size
+    pub faulty_here : None ≡ bits_unless_faulty (enabled_by f (m % 8)) → lowest faulty (setup_by f) < 8
+    unfolding lowest
+    faulty_here sized =
+        let v : faulty (bank (setup_by f) m) ≡ true = sym sane_is ∙ ap is_none (sym sized) in
+        let i = first (λ j. faulty (bank (setup_by f) j)) 8 0 in
+        by_cases (ltb i 8) (λ u. ltb-true i 8 u)
+        (λ u. contra v (first_before (λ j. faulty (bank (setup_by f) j)) 8 0 m (omega arith) (omega (arith, below_eight, ltb-false i 8 u))))
+
+    module _ {bits : ℕ} (sized : Some bits ≡ bits_unless_faulty (enabled_by f (m % 8))) where
+      sane_here : (faulty (bank (setup_by f) m) ≡ false) × (bits ≡ megabyte_bits (bank (setup_by f) m))
+      unfolding bits_unless_faulty
+      sane_here =
+          let v : faulty (bank (setup_by f) m) ≡ false = sym sane_is ∙ ap is_none (sym sized) in
           let q : faulty (enabled_by f m) ≡ false = rw bank_here at v in
-          let r : bits ≡ megabyte_bits (enabled_by f m) = rw q at e in
-          let n : megabyte_bits (enabled_by f m) ≤ 8 = rw bank_here at (few_bits (bank (setup_by f) m) (decoded_by f m)) in
-          absurd (omega arith))
+          let r : Some bits ≡ Some (megabyte_bits (enabled_by f m)) = rw (same_here, q) at sized in
+          (v, rw bank_here (cc))
 
-      module _ (w : (bits ≡ 32) → ⊥) where
-        sane_here : (faulty (bank (setup_by f) m) ≡ false) × (bits ≡ megabyte_bits (bank (setup_by f) m))
-        unfolding bits_unless_faulty
-        sane_here =
-            by_cases (faulty (enabled_by f m)) (λ v. absurd (w (rw v at e)))
-            (λ v. let r : bits ≡ megabyte_bits (enabled_by f m) = rw v at e in rw bank_here (v, r))
+      bits_most : bits ≤ 8
+      bits_most = omega (arith, sane_here.1, few_bits (bank (setup_by f) m) (decoded_by f m))
 
-        bits_most : bits ≤ 8
-        bits_most = omega (arith, sane_here.1, few_bits (bank (setup_by f) m) (decoded_by f m))
+      -- no number of the pass leaves its 32 bits
+      pub power_below : 17 + bits < 32
+      power_below = omega (arith, bits_most)
 
-        -- no number of the pass leaves its 32 bits
-        pub power_below : 17 + bits < 32
-        power_below = omega (arith, bits_most)
+      pub power_fits : 17 + bits < 2 ^ 32
+      power_fits = omega (arith, bits_most)
 
-        pub power_fits : 17 + bits < 2 ^ 32
-        power_fits = omega (arith, bits_most)
+      pub base_fits : {p : ℕ} → p ≡ 2 ^ (17 + bits) → base + p < 2 ^ 32
+      base_fits q =
+          let room = pow_mono {i = 17 + bits} {j = most_row_bits + most_column_bits} (omega (arith, bits_most)) in
+          omega (arith, q, small_here, room)
 
-        pub base_fits : {p : ℕ} → p ≡ 2 ^ (17 + bits) → base + p < 2 ^ 32
-        base_fits q =
-            let room = pow_mono {i = 17 + bits} {j = most_row_bits + most_column_bits} (omega (arith, bits_most)) in
-            omega (arith, q, small_here, room)
+      cells_here : cells (bank (setup_by f) m) ≡ 2 ^ (17 + bits)
+      cells_here = cells_bits (bank (setup_by f) m) (decoded_by f m) ∙ ap (λ (x : ℕ). 2 ^ (17 + x)) (sym sane_here.1)
 
-        cells_here : cells (bank (setup_by f) m) ≡ 2 ^ (17 + bits)
-        cells_here = cells_bits (bank (setup_by f) m) (decoded_by f m) ∙ ap (λ (x : ℕ). 2 ^ (17 + x)) (sym sane_here.1)
+      pub forward_here : get_or f.starts m 0 ≤ get_or f.lasts m 0
+      forward_here =
+          rw (starts_here, ends_here) at (forward (setup_by f) m enabled_here sane_here.0)
 
-        pub forward_here : get_or f m 0 ≤ get_or f (8 + m) 0
-        forward_here =
-            rw (starts_here, ends_here) at (forward (setup_by f) m enabled_here sane_here.0)
-
-        pub going_next : get_or f (8 + m) 0 < 2 ^ 16 → (gap : ℕ) → gap < 2 ^ 32 → (gap + get_or f m 0) % 2 ^ 32 ≡ end
-            → Going f mb (bit_and rest (rest - 1))
-            (cond (leb (get_or f m 0) mb && leb mb (get_or f (8 + m) 0)) m b)
-            (cond (leb (get_or f m 0) mb && leb mb (get_or f (8 + m) 0)) base k)
-            (cond (leb (get_or f m 0) mb && leb mb (get_or f (8 + m) 0)) bits z)
-            (base + 2 ^ (17 + bits)) (get_or f (8 + m) 0) (bit_and ascent gap)
-        going_next small gap u q =
-            let d = decoded_by f m in
-            let here = bank (setup_by f) m in
-            let more =
-            passed_more (setup_by f) mb m b k z base end ascent passed_here gap u below_eight enabled_here sane_here.0 (cells_within here d.rows_most d.columns_narrow) (few_bits here d) (rw ends_here small) (rw starts_here q) in
-            record {
-              n = m + 1;
-              left = rest_less (get_or f 16 0) rest g.n g.left some;
-              passed = rw (starts_here, ends_here, cells_here, ← sane_here.1) at more;
-            }
+      pub going_next : get_or f.lasts m 0 < 2 ^ 16 → (gap : ℕ) → gap < 2 ^ 32 → (gap + get_or f.starts m 0) % 2 ^ 32 ≡ end
+          → Going f mb (bit_and rest (rest - 1))
+          (cond (leb (get_or f.starts m 0) mb && leb mb (get_or f.lasts m 0)) m b)
+          (cond (leb (get_or f.starts m 0) mb && leb mb (get_or f.lasts m 0)) base k)
+          (cond (leb (get_or f.starts m 0) mb && leb mb (get_or f.lasts m 0)) bits z)
+          (base + 2 ^ (17 + bits)) (get_or f.lasts m 0) (bit_and ascent gap)
+      going_next small gap u q =
+          let d = decoded_by f m in
+          let here = bank (setup_by f) m in
+          let more =
+          passed_more (setup_by f) mb m b k z base end ascent passed_here gap u below_eight enabled_here sane_here.0 (cells_within here d.rows_most d.columns_narrow) (few_bits here d) (rw ends_here small) (rw starts_here q) in
+          record {
+            n = m + 1;
+            left = rest_less f.enables rest g.n g.left some;
+            passed = rw (starts_here, ends_here, cells_here, ← sane_here.1) at more;
+          }
 
 -- ---- the end of the pass
 -- what `select` promises of a route

@@ -1,6 +1,6 @@
 -- What a route says about the map. `route_leads` is for those who hold a route, and `leads_beside` carries it to another address of the megabyte;
 -- both follow from `found`, `no_bank` and `not_ready_lem`, which take the equation of `route` apart.
-use Rattle.std.proofs.Common.{◌≡◌, ℕ, zero, suc, ◌+◌, ◌*◌, ◌/◌, ◌%◌, ◌^◌, ◌<◌, ◌≤◌, true, false, ltb, List, [], ◌∷◌, sym, ap, ◌∙◌, arith, ltb-false, ltb-true, le-ltb, lt-ltb, ne_eqb}
+use Rattle.std.proofs.Common.{◌≡◌, ℕ, zero, suc, ◌+◌, ◌*◌, ◌/◌, ◌%◌, ◌^◌, ◌<◌, ◌≤◌, true, false, ltb, [], ◌∷◌, sym, ap, ◌∙◌, arith, ltb-false, ltb-true, le-ltb, lt-ltb, ne_eqb}
 use mathlib.Core.Option.{Option, none, some}
 use borrow.Author.Tests.{lt-leb}
 use Rattle.basics.proofs.RangeLaws.{by_cases, never, sum_zero, sum_more}
@@ -10,11 +10,12 @@ use Rattle.registers.specs.Record.{at}
 use Rattle.registers.specs.declared.Registers.{Registers}
 use Rattle.banks.specs.declared.Bank.{Bank}
 use Rattle.banks.specs.Setup.{fewest_row_bits, Setup, setup_of, bank}
+use Rattle.address_map.specs.declared.fields.Fields.{Fields}
 use Rattle.address_map.specs.CodeFields.{code_by, enabled_by, bank_by, setup_by}
 use Rattle.banks.specs.Judge.{not_ready}
 use Rattle.banks.specs.Map.{most_cells, bank_at, selected, cell_in_bank, share, cells_below, cell_count, in_span, located, place_of, cell_of}
 use Rattle.address_map.specs.CodeSelection.{megabyte_bits, selection, InBank}
-use Rattle.address_map.specs.CodeRoute.{bank_in, first_in, bits_in, paper_route, no_cell, cell_by, target_of, Leads}
+use Rattle.address_map.specs.CodeRoute.{bank_in, first_in, bits_in, paper_route, cell_by, target_of, Leads}
 use Rattle.address_map.specs.declared.routes.Route.{Route}
 use Rattle.banks.proofs.FieldLaws.{Decoded, decoded, bounded, cells_within}
 use Rattle.banks.proofs.SpanLaws.{bank_held, none_past}
@@ -39,7 +40,7 @@ cell_is b h bits a e = rw (e, cells_bits b h)
 
 -- the row bits of an enabled bank, from its row code and its bits
 pub rows_are :
-    (f : List ℕ) (n : ℕ)
+    (f : Fields) (n : ℕ)
     → n < 8
     → (bank (setup_by f) n).enabled ≡ true → fewest_row_bits + code_by f n + megabyte_bits (bank (setup_by f) n) / 8 ≡ (bank (setup_by f) n).row_bits
 unfolding bank_by
@@ -105,17 +106,15 @@ module _ (to : Route) (s : Setup) (a : ℕ) (e : paper_route to ≡ (not_ready s
   -- the cells of the other addresses of the megabyte
   module _ (d : (n : ℕ) → Decoded (bank s n)) (b : ℕ) (near : b / 2 ^ 20 ≡ a / 2 ^ 20) where
     cell_found : bank_in to < 8 → target_of (cell_by to b) ≡ cell_of s b
-    unfolding target_of cell_by cell_of located in_span place_of
+    unfolding cell_by cell_of located in_span place_of
     cell_found l =
         let n = bank_in to in
         let f = found l in
-        let k = cells_below s n + cell_in_bank (bank s n) b in
         let w = cell_is (bank s n) (d n) (bits_in to) b f.inside.size in
-        let small : (k ≡ no_cell) → ⊥ = λ z. omega (arith, z, l, cells_bound s d n, cell_in_bank_most (bank s n) b, cells_within (bank s n) (d n).rows_most (d n).columns_narrow) in
-        rw (lt-leb 8 n l, f.inside.first, w, ne_eqb k no_cell small, near, f.bank_is, lt-ltb n 8 l)
+        rw (lt-leb 8 n l, f.inside.first, w, near, f.bank_is, lt-ltb n 8 l)
 
     cell_missing : bank_in to ≡ 8 → target_of (cell_by to b) ≡ cell_of s b
-    unfolding target_of cell_by cell_of located in_span
+    unfolding cell_by cell_of located in_span
     cell_missing h = rw (h, near, (no_bank h).1)
 
   pub leads : ((n : ℕ) → Decoded (bank s n)) → Leads to s a

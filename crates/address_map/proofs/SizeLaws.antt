@@ -1,5 +1,6 @@
 -- The size of a bank from the length of its span, as a number of bits, and from its row code.
-use Rattle.std.proofs.Common.{◌≡◌, ℕ, zero, suc, ◌+◌, ◌-◌, ◌*◌, ◌/◌, ◌%◌, ◌^◌, ◌<◌, ◌≤◌, false, cond, ◌&&◌, eqb, ltb, leb, List, get_or, sym, refl, ap, ◌∙◌, arith, pow_mono, ltb-false, ltb-true, lt-ltb, ne_eqb, eqb-true, le-leb, leb-false, leb-true}
+use Rattle.std.specs.Prelude.{Some, None, is_none}
+use Rattle.std.proofs.Common.{◌≡◌, ℕ, zero, suc, ◌+◌, ◌-◌, ◌*◌, ◌/◌, ◌%◌, ◌^◌, ◌<◌, ◌≤◌, false, cond, ◌&&◌, eqb, ltb, leb, get_or, sym, refl, ap, ◌∙◌, arith, pow_mono, ltb-false, ltb-true, lt-ltb, eqb-true, le-leb, leb-false, leb-true}
 use borrow.Author.Tests.{lt-leb}
 use Rattle.basics.proofs.Bools.{and_left, and_right}
 use Rattle.basics.proofs.RangeLaws.{by_cases, contra, first_at}
@@ -8,11 +9,12 @@ use Rattle.banks.specs.declared.Bank.{Bank}
 use Rattle.banks.specs.Setup.{fewest_row_bits, most_row_bits, megabytes, row_bits_of, fits, column_limit, column_bits_of}
 use Rattle.banks.specs.Judge.{faulty}
 use Rattle.banks.specs.Map.{cells}
+use Rattle.address_map.specs.declared.fields.Fields.{Fields}
 use Rattle.address_map.specs.CodeFields.{code_by, longest_of, enabled_by}
 use Rattle.address_map.specs.CodeSelection.{SizeBits, megabyte_bits, bits_unless_faulty}
 use Rattle.banks.proofs.FieldLaws.{Decoded, rows_by_code, rows_by_length, limit_is, fits_in, columns_narrow, long_columns}
 use Rattle.address_map.proofs.LongestLaws.{longest_most, faulty_is}
-use Rattle.address_map.proofs.SetupLaws.{code_below, decoded_enabled}
+use Rattle.address_map.proofs.SetupLaws.{code_below}
 
 -- the longest bank of row codes 0 to 2
 longest_power : (code : ℕ) → code < 3 → longest_of code ≡ 2 ^ (2 * code + 1)
@@ -92,22 +94,18 @@ size_is span code j c h l =
     size_of span code (cond (ltb j code) code j) (greater_from span code j h l) (greater_holds span code j h l) (greater_least span code j h l) c
 
 -- ---- the bits of an enabled bank; w is its last megabyte less its start, modulo 2 ^ 32
-module _
-    (f : List ℕ) (n w k : ℕ) (x : get_or f n 0 < 2 ^ 16) (y : get_or f (8 + n) 0 < 2 ^ 16) (v : w < 2 ^ 32) (d : (w + get_or f n 0) % 2 ^ 32 ≡ get_or f (8 + n) 0)
-    (z : SizeBits (w % 2 ^ 31) (code_by f n) k) where
-  pub bits_are : cond (ltb w (longest_of (code_by f n))) k 32 ≡ bits_unless_faulty (enabled_by f n)
+module _ (f : Fields) (n w : ℕ) (x : get_or f.starts n 0 < 2 ^ 16) (y : get_or f.lasts n 0 < 2 ^ 16) (v : w < 2 ^ 32) (d : (w + get_or f.starts n 0) % 2 ^ 32 ≡ get_or f.lasts n 0) where
+  pub bits_are : (k : ℕ) → SizeBits (w % 2 ^ 31) (code_by f n) k → w < longest_of (code_by f n) → Some k ≡ bits_unless_faulty (enabled_by f n)
   unfolding bits_unless_faulty megabyte_bits enabled_by megabytes
-  bits_are =
-      let start = get_or f n 0 in
-      let last = get_or f (8 + n) 0 in
-      let m = longest_of (code_by f n) in
-      let faulty = faulty_is f n w x y v d in
-      by_cases (ltb w m)
-      (λ t.
-      let l = ltb-true w m t in
+  bits_are k z l =
+      let start = get_or f.starts n 0 in
+      let last = get_or f.lasts n 0 in
       let e : last + 1 - start ≡ w % 2 ^ 31 + 1 = omega (arith, l, longest_most (code_by f n) (code_below f n)) in
-      rw (t, faulty, lt-leb m w l, e) (omega (arith, z (omega (arith, l)))))
-      (λ t. rw (t, faulty, le-leb m w (ltb-false w m t)))
+      rw (faulty_is f n w x y v d, lt-leb (longest_of (code_by f n)) w l, e) (ap (λ (i : ℕ). Some i) (omega (arith, z (omega (arith, l)))))
+
+  pub bits_missing : longest_of (code_by f n) ≤ w → None ≡ bits_unless_faulty (enabled_by f n)
+  unfolding bits_unless_faulty
+  bits_missing l = rw (faulty_is f n w x y v d, le-leb (longest_of (code_by f n)) w l)
 
 -- ---- the bits of any bank
 pub few_bits : (b : Bank) → Decoded b → megabyte_bits b ≤ 8
@@ -118,13 +116,10 @@ pub cells_bits : (b : Bank) → Decoded b → cells b ≡ 2 ^ (17 + megabyte_bit
 unfolding cells megabyte_bits
 cells_bits b h = ap (λ (x : ℕ). 2 ^ x) (omega arith)
 
--- 32 stands for a faulty bank alone
-pub faulty_stands : (f : List ℕ) (n : ℕ) → eqb (bits_unless_faulty (enabled_by f n)) 32 ≡ faulty (enabled_by f n)
+-- a faulty bank alone has none
+pub faulty_stands : (f : Fields) (n : ℕ) → is_none (bits_unless_faulty (enabled_by f n)) ≡ faulty (enabled_by f n)
 unfolding bits_unless_faulty
-faulty_stands f n =
-    let b = enabled_by f n in
-    by_cases (faulty b) (λ t. rw t)
-    (λ t. rw t (ne_eqb (megabyte_bits b) 32 (λ e. omega (arith, e, few_bits b (decoded_enabled f n)))))
+faulty_stands f n = by_cases (faulty (enabled_by f n)) (λ t. rw t) (λ t. rw t)
 
 -- the column bits, by those bits and the row bits
 pub columns_are : (b : Bank) → Decoded b → 17 + megabyte_bits b - b.row_bits ≡ b.column_bits
@@ -137,10 +132,10 @@ unfolding megabyte_bits
 rows_left b h = omega arith
 
 -- the row bits of an enabled bank, by those bits
-pub rows_by_bits : (f : List ℕ) (n : ℕ) → (enabled_by f n).row_bits ≡ fewest_row_bits + code_by f n + megabyte_bits (enabled_by f n) / 8
+pub rows_by_bits : (f : Fields) (n : ℕ) → (enabled_by f n).row_bits ≡ fewest_row_bits + code_by f n + megabyte_bits (enabled_by f n) / 8
 unfolding enabled_by megabyte_bits
 rows_by_bits f n =
-    let L = megabytes (get_or f n 0) (get_or f (8 + n) 0) in
+    let L = megabytes (get_or f.starts n 0) (get_or f.lasts n 0) in
     let code = code_by f n in
     let R = fewest_row_bits + code in
     by_cases (eqb code 3 && ltb 128 L)

@@ -1,5 +1,6 @@
 -- The route of an address, one number in which the code packs what the pass finds; for contracts of code and the laws that they lead to.
-use Rattle.std.specs.Prelude.{◌≡◌, ℕ, ◌+◌, ◌/◌, ◌%◌, ◌^◌, cond, not, [], ◌∷◌, ◌==◌, nat_le, nat_lt}
+use Rattle.std.specs.Prelude.{◌≡◌, ℕ, ◌+◌, ◌/◌, ◌%◌, ◌^◌, cond, not, [], ◌∷◌, ◌==◌, nat_le, nat_lt, Some, None}
+use Rattle.std.specs.Prelude as code
 use Rattle.std.proofs.Math.Option.{Option, none, some}
 use Rattle.refusals.specs.Paper.{paper, refuse, Outcome, refused, given}
 use Rattle.refusals.specs.declared.Refusal.TheVariants.{NotReady}
@@ -29,17 +30,14 @@ abbrev pub paper_route : Route → Outcome (Option (ℕ × ℕ × ℕ))
 paper_route to =
     cond (nat_lt 8 (bank_in to)) (refused (paper NotReady)) (given (cond (nat_lt (bank_in to) 8) (some (bank_in to, first_in to, bits_in to)) none))
 
--- the number that stands for a cell if no bank is selected: 2 ^ 64 - 1
-abbrev pub no_cell : ℕ
-no_cell = 0xFFFFFFFFFFFFFFFF
+-- MAP-6: the cell of an address by its route, if a bank is selected
+unfoldable pub cell_by : Route → ℕ → code.Option ℕ
+cell_by to a = cond (nat_le 8 (bank_in to)) None (Some (first_in to + a / 8 % 2 ^ (17 + bits_in to)))
 
--- MAP-6: the cell of an address by its route, or the number that stands for none
-unfoldable pub cell_by : Route → ℕ → ℕ
-cell_by to a = cond (nat_le 8 (bank_in to)) no_cell (first_in to + a / 8 % 2 ^ (17 + bits_in to))
-
--- the cell that such a number stands for
-unfoldable pub target_of : ℕ → Option ℕ
-target_of k = cond (k == no_cell) none (some k)
+-- the same as the definitions have it
+abbrev pub target_of : code.Option ℕ → Option ℕ
+target_of None = none
+target_of (Some k) = some k
 
 -- the route of an address leads from every address of its megabyte to its cell
 pub record Leads (to : Route) (s : Setup) (a : ℕ) : Type 0 where

@@ -1,5 +1,6 @@
 -- What the pass finds, for the contracts of its functions.
-use Rattle.std.specs.Prelude.{◌≡◌, ℕ, ◌+◌, ◌-◌, ◌<◌, true, cond, nat_lt}
+use Rattle.std.specs.Prelude.{◌≡◌, ℕ, ◌+◌, ◌-◌, ◌<◌, true, cond, nat_lt, Some, None}
+use Rattle.std.specs.Prelude as code
 use Rattle.std.proofs.Math.Option.{Option, none, some}
 use Rattle.banks.specs.declared.Bank.{Bank}
 use Rattle.banks.specs.Setup.{Setup, row_bits_of, column_bits_of, bank}
@@ -15,9 +16,9 @@ SizeBits span code k = span < longest_of code → 17 + k ≡ row_bits_of code (s
 unfoldable pub megabyte_bits : Bank → ℕ
 megabyte_bits b = b.row_bits + b.column_bits - 17
 
--- the same, or 32 where the bank is faulty
-unfoldable pub bits_unless_faulty : Bank → ℕ
-bits_unless_faulty b = cond (faulty b) 32 (megabyte_bits b)
+-- the same, unless the bank is faulty
+unfoldable pub bits_unless_faulty : Bank → code.Option ℕ
+bits_unless_faulty b = cond (faulty b) None (Some (megabyte_bits b))
 
 -- the bank that holds a megabyte, the number of its first cell and its bits, if there is such a bank
 unfoldable pub selection : Setup → ℕ → Option (ℕ × ℕ × ℕ)

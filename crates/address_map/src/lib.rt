@@ -2,14 +2,14 @@
 #![tactic(auto)]
 
 ghost use Rattle.std.specs.Prelude.{◌≡◌, ◌/◌, ◌^◌};
-ghost use Rattle.refusals.specs.Paper.{◌gives◌};
+ghost use Rattle.refusals.specs.Paper.{paper_outcome, ◌gives◌};
 ghost use Rattle.banks.specs.Setup.{setup_of};
 ghost use Rattle.banks.specs.Judge.{not_ready};
-ghost use Rattle.banks.specs.Map.{paper_mapping, mapped, paper_count, cell_count};
+ghost use Rattle.banks.specs.Map.{paper_mapping, mapped, cell_count};
 ghost use Rattle.address_map.specs.CodeSelection.{selection};
 ghost use Rattle.address_map.specs.CodeRoute.{route_by, bank_in, first_in, paper_route};
 
-use banks::{CellCount, Mapping};
+use banks::Place;
 use refusals::Refusal;
 use registers::Registers;
 
@@ -20,17 +20,16 @@ mod pass;
 mod routes;
 mod sizes;
 
-pub use fields::{FIELDS, fields_of, is_enabled, is_on, row_code};
-pub use pairs::meets_lower;
-pub use routes::{NO_BANK, NO_CELL, NOT_READY, Route, bank_of, cell_at};
-pub use sizes::{FAULTY, bits_unless_faulty, column_bits};
+pub use fields::Fields;
+pub use routes::{NO_BANK, NOT_READY, Route, bank_of, cell_at};
+pub use sizes::column_bits;
 
 fn route_number(r: Registers, address: u32) -> u64
     ensures result_value { paper_route (route_by result) ≡ (not_ready (setup_of r) gives selection (setup_of r) (address / 2 ^ 20)) }
     ensures counted { bank_in (route_by result) ≡ 8 → first_in (route_by result) ≡ cell_count (setup_of r) }
 {
-    let fields = fields::fields_of(r);
-    pass::select(&fields, address >> 20)
+    let fields = Fields::from(r);
+    fields.select(address >> 20)
 }
 
 // Judges a record, and finds the bank of an address.
@@ -43,32 +42,29 @@ pub fn route(r: Registers, address: u32) -> Route
 }
 
 // MAP-9: the map.
-pub fn map(r: Registers, address: u32) -> Mapping
+pub fn map(r: Registers, address: u32) -> Result<Option<Place>, Refusal>
     ensures { paper_mapping result ≡ mapped (setup_of r) address }
 {
-    let fields = fields::fields_of(r);
+    let fields = Fields::from(r);
     let to = Route {
-        number: pass::select(&fields, address >> 20),
+        number: fields.select(address >> 20),
     };
-    let bank = bank_of(to);
-    if bank < NO_BANK {
-        return Mapping::At(addressing::place_in(&fields, to, address));
+    match bank_of(to) {
+        0..NO_BANK => Ok(Some(addressing::place_in(&fields, to, address))),
+        NO_BANK => Ok(None),
+        _ => Err(Refusal::NotReady),
     }
-    if bank == NO_BANK {
-        return Mapping::NoBank;
-    }
-    Mapping::Refused(Refusal::NotReady)
 }
 
 // MAP-10: the number of cells of a record. No bank reaches the last address, and its route tells the number.
-pub fn cell_count(r: Registers) -> CellCount
-    ensures { paper_count result ≡ (not_ready (setup_of r) gives cell_count (setup_of r)) }
+pub fn cell_count(r: Registers) -> Result<u32, Refusal>
+    ensures { paper_outcome result ≡ (not_ready (setup_of r) gives cell_count (setup_of r)) }
 {
     let to = Route {
         number: route_number(r, 0xffffffff),
     };
     if bank_of(to) <= NO_BANK {
-        return CellCount::Cells(routes::first_of(to));
+        return Ok(routes::first_of(to));
     }
-    CellCount::NotReady
+    Err(Refusal::NotReady)
 }

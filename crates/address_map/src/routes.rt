@@ -8,9 +8,6 @@ pub const NO_BANK: u32 = 8;
 // Stands for a bank if the set-up is not ready.
 pub const NOT_READY: u32 = 9;
 
-// Stands for a cell if no bank is selected.
-pub const NO_CELL: usize = 0xffffffffffffffff;
-
 // The number of the route if the set-up is not ready: NOT_READY at the bank's place.
 pub(crate) const UNREADY: u64 = 144;
 
@@ -59,12 +56,13 @@ pub(crate) fn cell_in_bank(to: Route, address: u32) -> u32
     (((address >> 3) as u64) & ((1u64 << (17 + bits_of(to))) - 1)) as u32
 }
 
-// MAP-6: the number of an address's cell, by the route of an address of the same megabyte; NO_CELL if no bank is selected.
-pub fn cell_at(to: Route, address: u32) -> usize
+// MAP-6: the number of an address's cell, by the route of an address of the same megabyte, if a bank is selected.
+#[inline(always)]
+pub fn cell_at(to: Route, address: u32) -> Option<usize>
     ensures { result ≡ cell_by to address }
 {
     if NO_BANK <= bank_of(to) {
-        return NO_CELL;
+        return None;
     }
-    first_of(to) as usize + cell_in_bank(to, address) as usize
+    Some(first_of(to) as usize + cell_in_bank(to, address) as usize)
 }

@@ -4,15 +4,11 @@ ghost use Rattle.banks.specs.Setup.{fewest_row_bits};
 ghost use Rattle.address_map.specs.CodeFields.{longest_of, enabled_by};
 ghost use Rattle.address_map.specs.CodeSelection.{SizeBits, bits_unless_faulty};
 
-use crate::fields::{FIELDS, last_of, row_code, start_of};
+use crate::fields::Fields;
 use banks::{FEWEST_ROW_BITS, MEGABYTE_BITS};
-use std::num::wrapping_sub_u32;
 
 // ON-3: the longest bank of each row code, in megabytes.
 const LONGEST: [u16; 4] = [2, 8, 32, 256];
-
-// Stands for the bits of a faulty bank, which are never so many.
-pub const FAULTY: u32 = 32;
 
 // 2^k.
 pub(crate) fn power(k: u32) -> u32
@@ -34,14 +30,14 @@ fn longest(code: u32) -> u32
     requires { code < 4 }
     ensures { result ≡ longest_of code }
 {
-    LONGEST[code as usize] as u32
+    u32::from(LONGEST[code as usize])
 }
 
 // How many binary digits a number has, its top bit left out.
 fn digits(x: u32) -> u32
     ensures { (x % 2 ^ 31 < 2 ^ result) × (2 ^ result ≤ 2 * (x % 2 ^ 31) + 1) }
 {
-    31 - u32::leading_zeros((x << 1) + 1)
+    31 - ((x << 1) + 1).leading_zeros()
 }
 
 // How many bits it takes to number the megabytes of a bank's cells, if its span has `span` + 1 megabytes: at least the row code.
@@ -53,15 +49,20 @@ fn size_bits(span: u32, code: u32) -> u32
     choose(k < code, code, k)
 }
 
-// How many bits number the megabytes of a bank's cells, as it is when enabled; FAULTY if 12 or 13 applies to it then. If its start
-// is above its end, the difference wraps to a number too long for any bank.
-pub fn bits_unless_faulty(fields: &[u16; FIELDS], n: u32) -> u32
-    ensures { result ≡ bits_unless_faulty (enabled_by fields.now (n % 8)) }
-{
-    let code = row_code(fields, n);
-    let span = wrapping_sub_u32(last_of(fields, n), start_of(fields, n));
-    let bits = size_bits(span, code);
-    choose(span < longest(code), bits, FAULTY)
+impl Fields {
+    // How many bits number the megabytes of a bank's cells, as it is when enabled, unless 12 or 13 applies to it then. If its start is above its
+    // end, the difference wraps to a number too long for any bank.
+    pub fn bits_unless_faulty(&self, n: u32) -> Option<u32>
+        ensures { result ≡ bits_unless_faulty (enabled_by self.now (n % 8)) }
+    {
+        let code = self.row_code(n);
+        let span = self.last(n).wrapping_sub(self.start(n));
+        if span < longest(code) {
+            Some(size_bits(span, code))
+        } else {
+            None
+        }
+    }
 }
 
 // REG-13, REG-14: the column bits of a bank with this row code, if `bits` bits number the megabytes of its cells; the other bits number its rows.

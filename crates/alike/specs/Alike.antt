@@ -1,10 +1,11 @@
 -- Alike: whether two records treat every address in the same way.
-use Rattle.std.specs.Prelude.{ℕ, ◌^◌, Bool, true, false, not, ◌&&◌, ◌||◌, eqb}
+use Rattle.std.specs.Prelude.{ℕ, ◌^◌, Bool, true, false, not, ◌&&◌, ◌||◌, eqb, Result, Ok, Err}
 use Rattle.basics.specs.Range.{every}
 use Rattle.refusals.specs.Paper.{paper, ◌else◌, Outcome, refused, given, ◌gives◌}
+use Rattle.refusals.specs.declared.Refusal.{Refusal}
 use Rattle.banks.specs.declared.Bank.{Bank}
 use Rattle.alike.specs.declared.Comparison.{Comparison}
-use Rattle.alike.specs.declared.Comparison.TheVariants.{Refused, Alike, Different}
+use Rattle.alike.specs.declared.Comparison.TheVariants.{Alike, Different}
 use Rattle.banks.specs.Setup.{Setup, bank}
 use Rattle.banks.specs.Judge.{not_ready}
 use Rattle.banks.specs.Map.{in_span, selected, row_of, column_of}
@@ -27,7 +28,7 @@ unfoldable pub compared : Setup → Setup → Outcome Bool
 compared s t = not_ready s else not_ready t gives alike s t
 
 -- FORM-7: the refusal as the rules number it, or yes or no
-abbrev pub paper_comparison : Comparison → Outcome Bool
-paper_comparison (Refused x) = refused (paper x)
-paper_comparison Alike = given true
-paper_comparison Different = given false
+abbrev pub paper_comparison : Result Comparison Refusal → Outcome Bool
+paper_comparison (Err x) = refused (paper x)
+paper_comparison (Ok Alike) = given true
+paper_comparison (Ok Different) = given false

@@ -11,15 +11,14 @@ use banks::Bank;
 use refusals::Refusal;
 use registers::Registers;
 
-// What comparing two records returns.
-#[derive(Clone, Copy)]
+// What comparing two records finds. FORM-7: an answer is an enum.
+#[derive(Clone, Copy, PartialEq, Eq, Debug)]
 pub enum Comparison {
-    Refused(Refusal),
     Alike,
     Different,
 }
 
-// The row of an address in a bank.
+// The row of an address in a bank. Here as in `way_back` the bounds of a bank are asked of each function, since the type has public fields and holds none.
 fn row(b: Bank, address: u32) -> u32
     requires { Bounded b }
     ensures { result ≡ (row_of b address).0 }
@@ -46,19 +45,19 @@ fn is_same_bank(b: Bank, c: Bank) -> bool
 }
 
 // ALIKE-3: whether two records are alike.
-pub fn compare(r: Registers, s: Registers) -> Comparison
+pub fn compare(r: Registers, s: Registers) -> Result<Comparison, Refusal>
     ensures { paper_comparison result ≡ compared (setup_of r) (setup_of s) }
 {
     if !judging::is_ready(r) {
-        return Comparison::Refused(Refusal::NotReady);
+        return Err(Refusal::NotReady);
     }
     if !judging::is_ready(s) {
-        return Comparison::Refused(Refusal::NotReady);
+        return Err(Refusal::NotReady);
     }
     for n in 0..8u32 {
         if !is_same_bank(judging::decode_bank(r, n), judging::decode_bank(s, n)) {
-            return Comparison::Different;
+            return Ok(Comparison::Different);
         }
     }
-    Comparison::Alike
+    Ok(Comparison::Alike)
 }

@@ -1,8 +1,6 @@
 // The types of the map, and the numbers that they share. Their definitions are in specs/, their laws in proofs/.
 #![tactic(auto)]
 
-use refusals::Refusal;
-
 // The row bits of code 0.
 pub const FEWEST_ROW_BITS: u32 = 9;
 
@@ -37,19 +35,4 @@ pub struct Place {
     pub row: Row,
     pub column: Column,
     pub cell: u32,
-}
-
-// What the map returns.
-#[derive(Clone, Copy)]
-pub enum Mapping {
-    Refused(Refusal),
-    NoBank,
-    At(Place),
-}
-
-// MAP-7: how many cells the enabled banks have together.
-#[derive(Clone, Copy)]
-pub enum CellCount {
-    NotReady,
-    Cells(u32),
 }

@@ -12,11 +12,10 @@ ghost use Rattle.targets.specs.CodeTargets.{carried_out, beat_targets};
 use access::{admit, fetch};
 use address_map::{Route, route};
 use byte_lanes::copy_line;
-use calls::Answer;
+use calls::{Answer, Kinds};
 use parts::{are_allowed, beat_address, beat_cell, judge_burst};
-use refusals::{Refusal, Verdict};
+use refusals::Refusal;
 use registers::Registers;
-use results::{four, kind_of, refuse};
 
 // The beats of a burst read, by the route of its line.
 fn read_beats(
@@ -30,20 +29,16 @@ fn read_beats(
     ensures { leaves result (lent_state registers.new cells.now) buffer.new ≡ effect_of (carried_out (lent_state registers.old cells.now) (beat_targets to address (λ i. read_in (beat_address address i) 8))) buffer.old }
 {
     if !are_allowed(cells.len(), to, address) {
-        return refuse(Refusal::NotLent);
+        return Err(Refusal::NotLent);
     }
     let k = beat_cell(to, address, 0);
     let a = fetch(registers, cells, k, beat_address(address, 0));
-    let first = kind_of(a.outcome);
     let l = beat_cell(to, address, 1);
     let b = fetch(registers, cells, l, beat_address(address, 1));
-    let second = kind_of(b.outcome);
     let m = beat_cell(to, address, 2);
     let c = fetch(registers, cells, m, beat_address(address, 2));
-    let third = kind_of(c.outcome);
     let n = beat_cell(to, address, 3);
     let d = fetch(registers, cells, n, beat_address(address, 3));
-    let fourth = kind_of(d.outcome);
     copy_line(
         a.doubleword,
         b.doubleword,
@@ -51,7 +46,7 @@ fn read_beats(
         d.doubleword,
         buffer,
     );
-    four(first, second, third, fourth)
+    Ok(Kinds::of([a.kind, b.kind, c.kind, d.kind]))
 }
 
 // MEM-13, MEM-15: a burst read.
@@ -64,9 +59,6 @@ pub fn burst_read_in_place(
     ensures { leaves result (lent_state registers.new cells.now) buffer.new ≡ burst_read_call columns (lent_state registers.old cells.now) address buffer.old }
 {
     let to = route(Registers { bytes: *registers }, address);
-    let verdict = admit(to, judge_burst(address, buffer.len()));
-    match verdict {
-        Verdict::Refused(x) => refuse(x),
-        Verdict::Accepted => read_beats(registers, cells, to, address, buffer),
-    }
+    admit(to, judge_burst(address, buffer.len()))?;
+    read_beats(registers, cells, to, address, buffer)
 }

@@ -11,12 +11,11 @@ ghost use Rattle.targets.specs.CodeTargets.{carried_out, beat_targets};
 
 use access::admit;
 use address_map::{Route, route};
-use calls::Answer;
+use calls::{Answer, Kinds};
 use eight_bytes::number_at;
 use parts::{are_allowed, beat_address, beat_cell, judge_burst};
-use refusals::{Refusal, Verdict};
+use refusals::Refusal;
 use registers::Registers;
-use results::{four, kind_of, refuse};
 use stores::write_full;
 
 // The beats of a burst write, by the route of its line.
@@ -31,21 +30,21 @@ fn write_beats(
     ensures { leaves result (lent_state registers.new cells.new) [] ≡ effect_of (carried_out (lent_state registers.old cells.old) (beat_targets to address (λ i. write_in (beat_address address i) (beat_bytes bytes.now i)))) [] }
 {
     if !are_allowed(cells.len(), to, address) {
-        return refuse(Refusal::NotLent);
+        return Err(Refusal::NotLent);
     }
     let a = number_at(bytes, 0);
     let k = beat_cell(to, address, 0);
-    let first = kind_of(write_full(registers, cells, k, beat_address(address, 0), a));
+    let first = write_full(registers, cells, k, beat_address(address, 0), a);
     let b = number_at(bytes, 8);
     let l = beat_cell(to, address, 1);
-    let second = kind_of(write_full(registers, cells, l, beat_address(address, 1), b));
+    let second = write_full(registers, cells, l, beat_address(address, 1), b);
     let c = number_at(bytes, 16);
     let m = beat_cell(to, address, 2);
-    let third = kind_of(write_full(registers, cells, m, beat_address(address, 2), c));
+    let third = write_full(registers, cells, m, beat_address(address, 2), c);
     let d = number_at(bytes, 24);
     let n = beat_cell(to, address, 3);
-    let fourth = kind_of(write_full(registers, cells, n, beat_address(address, 3), d));
-    four(first, second, third, fourth)
+    let fourth = write_full(registers, cells, n, beat_address(address, 3), d);
+    Ok(Kinds::of([first, second, third, fourth]))
 }
 
 // MEM-13, MEM-15: a burst write.
@@ -58,9 +57,6 @@ pub fn burst_write_in_place(
     ensures { leaves result (lent_state registers.new cells.new) [] ≡ burst_write_call columns (lent_state registers.old cells.old) address bytes.now }
 {
     let to = route(Registers { bytes: *registers }, address);
-    let verdict = admit(to, judge_burst(address, bytes.len()));
-    match verdict {
-        Verdict::Refused(x) => refuse(x),
-        Verdict::Accepted => write_beats(registers, cells, to, address, bytes),
-    }
+    admit(to, judge_burst(address, bytes.len()))?;
+    write_beats(registers, cells, to, address, bytes)
 }

@@ -1,32 +1,23 @@
 // Bytes of doublewords, copied to the buffer of a read.
-ghost use Rattle.std.specs.Prelude.{◌≡◌, cond, ◌+◌, ◌%◌, ◌≤◌, ◌<◌, leb, length, get_or, take, drop};
+ghost use Rattle.std.specs.Prelude.{◌≡◌, cond, ◌+◌, ◌%◌, ◌≤◌, ◌<◌, leb, length, take, drop};
 ghost use Rattle.eight_bytes.specs.CodeNumber.{eight_across};
 ghost use Rattle.ecc.specs.Doubleword.{bytes_of_number};
 ghost use Rattle.calls.specs.Calls.{crosses};
 
-use crate::whole::copy_eight;
-
-// Byte k of a doubleword.
-fn byte(doubleword: u64, k: usize) -> u8
-    requires { k < 8 }
-    ensures { result ≡ get_or (bytes_of_number doubleword) k 0 }
-{
-    ((doubleword >> (8 * k)) % 256) as u8
-}
-
-// Fills the buffer from byte `offset` of the doubleword on; eight bytes need no loop.
-fn copy_from(doubleword: u64, offset: usize, buffer: &mut [u8])
-    requires { offset + length buffer.old ≤ 8 }
-    ensures { buffer.new ≡ take (length buffer.old) (drop offset (bytes_of_number doubleword)) }
+// Fills the buffer with the lowest bytes of a number; eight need no loop. Fewer are stored one by one: `copy_from_slice` of a length that is not known
+// calls memcpy, and is slower (D-125).
+fn copy_lowest(x: u64, buffer: &mut [u8])
+    requires { length buffer.old ≤ 8 }
+    ensures { buffer.new ≡ take (length buffer.old) (bytes_of_number x) }
 {
     if buffer.len() == 8 {
-        copy_eight(doubleword, buffer, 0);
+        buffer.copy_from_slice(&eight_bytes::bytes_of(x));
         return;
     }
-    let mut i: usize = 0;
-    while i < buffer.len() {
-        buffer[i] = byte(doubleword, offset + i);
-        i += 1;
+    let mut rest = x;
+    for byte in buffer.iter_mut() {
+        *byte = (rest % 256) as u8;
+        rest >>= 8;
     }
 }
 
@@ -38,7 +29,7 @@ pub fn copy_out(doubleword: u64, address: u32, buffer: &mut [u8])
     if (8 - (address % 8) as usize) < buffer.len() {
         return;
     }
-    copy_from(doubleword, (address % 8) as usize, buffer);
+    copy_lowest(doubleword >> (8 * (address % 8)), buffer);
 }
 
 // MEM-18: fills the buffer of a split read, which has at most eight bytes (REF-6), with those from the address to the end of its doubleword, and then
@@ -50,5 +41,5 @@ pub fn copy_across(first: u64, second: u64, address: u32, buffer: &mut [u8])
         return;
     }
     let eight = eight_bytes::number_across(first, second, address);
-    copy_from(eight, 0, buffer);
+    copy_lowest(eight, buffer);
 }

@@ -1,28 +1,8 @@
 // Slices that are filled as a whole.
-ghost use Rattle.std.specs.Prelude.{◌≡◌, cond, [], ◌∷◌, ◌++◌, ◌+◌, ◌≤◌, eqb, length};
-ghost use Rattle.std.proofs.lemmas.List.Edits.{sets};
+ghost use Rattle.std.specs.Prelude.{◌≡◌, cond, [], ◌++◌, eqb, length};
 ghost use Rattle.ecc.specs.Doubleword.{bytes_of_number};
 
-// Stores four bytes from an index on.
-fn store_four(buffer: &mut [u8], at: usize, a: u8, b: u8, c: u8, d: u8)
-    requires { at + 4 ≤ length buffer.old }
-    ensures { buffer.new ≡ sets buffer.old at (a ∷ b ∷ c ∷ d ∷ []) }
-{
-    buffer[at] = a;
-    buffer[at + 1] = b;
-    buffer[at + 2] = c;
-    buffer[at + 3] = d;
-}
-
-// Stores all eight bytes of a doubleword from an index on.
-pub(crate) fn copy_eight(doubleword: u64, buffer: &mut [u8], at: usize)
-    requires { at + 8 ≤ length buffer.old }
-    ensures { buffer.new ≡ sets buffer.old at (bytes_of_number doubleword) }
-{
-    let bytes = eight_bytes::bytes_of(doubleword);
-    store_four(buffer, at, bytes[0], bytes[1], bytes[2], bytes[3]);
-    store_four(buffer, at + 4, bytes[4], bytes[5], bytes[6], bytes[7]);
-}
+use eight_bytes::bytes_of;
 
 // MEM-15: fills the buffer of a burst, which has 32 bytes, with four doublewords.
 pub fn copy_line(first: u64, second: u64, third: u64, fourth: u64, buffer: &mut [u8])
@@ -31,10 +11,10 @@ pub fn copy_line(first: u64, second: u64, third: u64, fourth: u64, buffer: &mut 
     if buffer.len() != 32 {
         return;
     }
-    copy_eight(first, buffer, 0);
-    copy_eight(second, buffer, 8);
-    copy_eight(third, buffer, 16);
-    copy_eight(fourth, buffer, 24);
+    buffer[..8].copy_from_slice(&bytes_of(first));
+    buffer[8..16].copy_from_slice(&bytes_of(second));
+    buffer[16..24].copy_from_slice(&bytes_of(third));
+    buffer[24..32].copy_from_slice(&bytes_of(fourth));
 }
 
 // FORM-6: stores the nine bytes of a cell into the part of the lent cells that holds it.
@@ -44,7 +24,5 @@ pub fn store_nine(lent: &mut [u8], nine: [u8; 9])
     if lent.len() != 9 {
         return;
     }
-    store_four(lent, 0, nine[0], nine[1], nine[2], nine[3]);
-    store_four(lent, 4, nine[4], nine[5], nine[6], nine[7]);
-    lent[8] = nine[8];
+    lent.copy_from_slice(&nine);
 }

@@ -1,11 +1,9 @@
 -- What a memory call gives and leaves, as its contract says it.
-use Rattle.std.specs.Prelude.{ℕ, List, [], ◌∷◌, ◌++◌, take}
+use Rattle.std.specs.Prelude.{ℕ, List, [], ◌∷◌, ◌++◌, take, Result, Ok, Err}
 use Rattle.refusals.specs.Paper.{paper, Outcome, refused, given}
-use Rattle.refusals.specs.declared.Verdict.{Verdict}
-use Rattle.refusals.specs.declared.Verdict.TheVariants as verdict
+use Rattle.refusals.specs.declared.Refusal.{Refusal}
 use Rattle.calls.specs.declared.Kind.{Kind}
-use Rattle.calls.specs.declared.Part.{Part}
-use Rattle.calls.specs.declared.Answer.{Answer}
+use Rattle.calls.specs.declared.Kinds.{Kinds}
 use Rattle.calls.specs.Calls.{AccessAnswer, CallAnswer}
 use Rattle.calls.specs.State.{State}
 
@@ -15,19 +13,18 @@ pub record Effect : Type 0 where
   pub state : State
   pub buffer : List ℕ
 
--- the kinds of the parts of an answer
-abbrev pub kinds_in : List Part → List Kind
-kinds_in [] = []
-kinds_in (x ∷ xs) = x.kind ∷ kinds_in xs
+-- what a call returns: why it was refused, or the kinds of its accesses
+abbrev pub Answer : Type 0
+Answer = Result Kinds Refusal
 
--- a refusal, or what an accepted call gives
-abbrev pub unless_refused : {A : Type 0} → Verdict → A → Outcome A
-unless_refused verdict.Accepted x = given x
-unless_refused (verdict.Refused n) x = refused (paper n)
+-- the kinds of the accesses of an accepted call
+abbrev pub kinds_in : Kinds → List Kind
+kinds_in k = take k.count k.all
 
 -- FORM-7: the number and the values of an answer
 abbrev pub paper_answer : Answer → Outcome (List Kind)
-paper_answer x = unless_refused x.verdict (kinds_in (take x.count x.parts))
+paper_answer (Ok k) = given (kinds_in k)
+paper_answer (Err x) = refused (paper x)
 
 -- DEM-4: an answer, with the state and the buffer as the call left them
 abbrev pub leaves : Answer → State → List ℕ → Effect

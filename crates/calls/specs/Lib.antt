@@ -2,4 +2,3 @@ pub mod Calls
 pub mod Spans
 pub mod Answers
 pub mod State
-pub mod CodeOutcomes

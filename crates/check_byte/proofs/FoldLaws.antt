@@ -18,6 +18,7 @@ use Rattle.basics.proofs.LinearLaws.{Linear, linear_self, linear_and, linear_shr
 use Rattle.ecc.specs.Columns.{columns}
 use Rattle.ecc.specs.CheckCode.{bit_at, data_bit, taken, xor_of, check_of}
 use Rattle.ecc.specs.Doubleword.{bytes_of_number}
+use Rattle.std.specs.Int.{w64, rotate_left}
 use Rattle.check_byte.specs.CodeFold.{rotated, masked, folded, over_shifted, folded_masks, laid_over, folded_check}
 use Rattle.ecc.proofs.BitLaws.{bit_xor_lem, taken_xor}
 use Rattle.ecc.proofs.DoublewordLaws.{number_at, bit_in_number, check_one}
@@ -53,7 +54,7 @@ check_linear cols x y =
 -- ---- the two parts of a rotation
 
 -- no bit is set in both, so that `|` joins them as `^` does
-pub rotated_or : (x n : ℕ) → n < 64 → x < 2 ^ 64 → bit_or (x * 2 ^ n % 2 ^ 64) (x / 2 ^ (64 - n)) ≡ rotated x n
+rotated_or : (x n : ℕ) → n < 64 → x < 2 ^ 64 → bit_or (x * 2 ^ n % 2 ^ 64) (x / 2 ^ (64 - n)) ≡ rotated x n
 unfolding rotated
 rotated_or x n h whole =
     let up : ℕ = x * 2 ^ n % 2 ^ 64 in
@@ -65,6 +66,12 @@ rotated_or x n h whole =
     or_disjoint up down apart ∙ sym (xor_disjoint up down apart)
 
 -- ---- the folds
+
+pub left_rotated : (x n : ℕ) → 0 < n → n < 64 → x < 2 ^ 64 → rotate_left w64 x n ≡ rotated x n
+left_rotated x n some few whole =
+    let up : n % 64 ≡ n = omega arith in
+    let down : (64 - n) % 64 ≡ 64 - n = omega arith in
+    rw (up, down) (rotated_or x n few whole)
 
 rotated_linear : (f : ℕ → ℕ) → Linear f → (n : ℕ) → Linear (λ x. rotated (f x) n)
 unfolding rotated

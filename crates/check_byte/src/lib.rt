@@ -9,6 +9,7 @@ ghost use Rattle.ecc.specs.Doubleword.{bytes_of_number};
 mod fold;
 
 // ECC-4: the check byte of a doubleword that is held as a number, byte 0 lowest.
+#[tactic(auto, using(crate::proofs::FoldLaws::fold_is_check), unfolding(crate::specs::CodeFold::folded_check))]
 pub fn check(doubleword: u64) -> u8
     ensures { result ≡ check_of columns (bytes_of_number doubleword) }
 {

@@ -1,30 +1,22 @@
 // What is stored of a doubleword under the columns of ECC-2, and the doubleword with one of its bits inverted.
 #![tactic(auto)]
 
-ghost use Rattle.std.specs.Prelude.{◌≡◌, cond, ◌^◌, ◌<◌, ltb};
+ghost use Rattle.std.specs.Prelude.{◌≡◌, cond, ◌<◌, ltb};
 ghost use Rattle.std.specs.Int.Bits.{bit_xor};
 ghost use Rattle.ecc.specs.Columns.{columns};
 ghost use Rattle.ecc.specs.CheckCode.{mask_of, flip_bit};
 ghost use Rattle.ecc.specs.Doubleword.{bytes_of_number};
 ghost use Rattle.ecc.specs.Cell.{encode};
 
-// The byte in which only bit j is set.
-fn unit(j: usize) -> u8
-    requires { j < 8 }
-    ensures { result ≡ 2 ^ j }
-{
-    1 << j
-}
-
-// The mask of flip bit b within its byte.
+// The mask of flip bit b within its byte. A flip bit is a number and no type with a bound, since a caller may give any (MEM-7).
 fn mask(b: usize) -> u8
     requires { b < 72 }
     ensures { result ≡ mask_of b }
 {
     if b < 64 {
-        unit(7 - b % 8)
+        1 << (7 - b % 8)
     } else {
-        unit(b - 64)
+        1 << (b - 64)
     }
 }
 
@@ -39,14 +31,14 @@ pub fn flip_byte(byte: u8, b: usize) -> u8
 }
 
 // MAP-8: the nine bytes of a doubleword and its check byte.
+#[tactic(auto, unfolding(ecc::specs::Cell::encode, ecc::specs::Doubleword::bytes_of_number))]
 pub fn encode(doubleword: u64) -> [u8; 9]
     ensures { result ≡ encode columns (bytes_of_number doubleword) }
 {
     let check = check_byte::check(doubleword);
-    let bytes = eight_bytes::bytes_of(doubleword);
-    [
-        bytes[0], bytes[1], bytes[2], bytes[3], bytes[4], bytes[5], bytes[6], bytes[7], check,
-    ]
+    let mut cell = [check; 9];
+    cell[..8].copy_from_slice(&eight_bytes::bytes_of(doubleword));
+    cell
 }
 
 // ECC-7: the doubleword with flip bit b inverted; a number above 63, a check bit's among them, changes nothing in it.

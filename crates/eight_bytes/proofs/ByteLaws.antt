@@ -1,11 +1,17 @@
 -- Bytes as one number, the first lowest.
-use mathlib.Core.Path.{◌≡◌, refl, sym, ap, ◌∙◌, subst}
+use mathlib.Core.Path.{◌≡◌, sym, ap, ◌∙◌, subst}
 use mathlib.Core.List.{List, [], ◌∷◌}
-use Prim.Native.Nat.{ℕ, zero, suc, ◌+◌, ◌*◌, ◌/◌, ◌%◌, ◌^◌, ◌<◌, ◌≤◌}
+use Prim.Native.Nat.{ℕ, zero, suc, ◌+◌, ◌*◌, ◌/◌, ◌^◌, ◌<◌, ◌≤◌}
 use native.Mathlib.Omega.{arith}
-use lib.ListN.{length, get_or, take, drop}
-use borrow.Author.Tests.{le-leb, lt-leb}
-use Rattle.basics.proofs.ListLaws.{from_take}
+use lib.ListN.{length, get_or, take, drop, length-drop}
+use lib.Seq.{length-take-le}
+use borrow.Author.Rules.{rules}
+use lib.Dec.{ltb}
+use borrow.Author.Tests.{le-leb, lt-leb, ltb-true, ltb-false}
+use Rattle.basics.proofs.RangeLaws.{by_cases}
+use Rattle.std.specs.Int.{w64, to_le_bytes, from_le_bytes}
+use Rattle.std.proofs.lemmas.Nat.{le_bytes_8}
+use Rattle.std.proofs.lemmas.List.{get_or-take, get_or-drop, get_or_past}
 use Rattle.eight_bytes.specs.CodeNumber.{bytes_in, eight_at}
 
 abbrev pub Bytes : List ℕ → Type 0
@@ -22,12 +28,8 @@ abbrev pub same : ℕ → ℕ → ℕ
 same zero b = 0
 same (suc n) b = same n b * 2 ^ 8 + b
 
-pub number_bytes : (l : List ℕ) → Bytes l → bytes_in (length l) (number l) ≡ l
-number_bytes [] h = refl
-number_bytes (b ∷ l) h =
-    let low : (number l * 2 ^ 8 + b) % 256 ≡ b = omega (arith, h.0) in
-    let rest : (number l * 2 ^ 8 + b) / 256 ≡ number l = omega (arith, h.0) in
-    rw (low, rest, number_bytes l h.1)
+written_low_first : (x : ℕ) → bytes_in 8 x ≡ to_le_bytes w64 x
+written_low_first x = search rules
 
 bytes_in_lem : (n x : ℕ) → Bytes (bytes_in n x)
 bytes_in_lem zero x = tt
@@ -49,14 +51,15 @@ pub eight_some : (l : List ℕ) (i : ℕ) → i + 8 ≤ length l → eight_at l 
 unfolding eight_at
 eight_some l i h = rw (le-leb (i + 8) (length l) h)
 
--- read one by one
-pub eight_read : (l : List ℕ) (i : ℕ) → i + 8 ≤ length l
-    → get_or l i 0 ∷ get_or l (i + 1) 0 ∷ get_or l (i + 2) 0 ∷ get_or l (i + 3) 0 ∷ get_or l (i + 4) 0 ∷ get_or l (i + 5) 0 ∷ get_or l (i + 6) 0 ∷ get_or l (i + 7) 0 ∷ []
-    ≡ eight_at l i
-eight_read l i h =
-    let at : (k : ℕ) → i + suc k ≡ suc (i + k) = λ k. omega arith in
-    let one : i + 1 ≡ suc i = omega arith in
-    rw (at 6, at 5, at 4, at 3, at 2, at 1, one) (from_take l i 8 h) ∙ sym (eight_some l i h)
+-- as a number
+pub eight_number : (l : List ℕ) (i n : ℕ) → i + 8 ≤ length l → ((k : ℕ) → get_or l k 0 < 256) → n ≡ from_le_bytes w64 (take 8 (drop i l)) → bytes_in 8 n ≡ eight_at l i
+eight_number l i n h small e =
+    let part : List ℕ = take 8 (drop i l) in
+    let whole : length part ≡ 8 = omega (arith, length-take-le 8 (drop i l), length-drop i l) in
+    let each : (k : ℕ) → get_or part k 0 < 256 = λ k. by_cases (ltb k 8)
+    (λ t. rw (get_or-take 8 (drop i l) k 0 (ltb-true k 8 t), get_or-drop i l k 0) (small (i + k)))
+    (λ t. rw (get_or_past part k 0 (omega (arith, ltb-false k 8 t))) (omega arith)) in
+    written_low_first n ∙ le_bytes_8 part n whole each e ∙ sym (eight_some l i h)
 
 -- a number that has these bytes
 pub eight_are : (l : List ℕ) (x : ℕ) → x < 2 ^ 64 → bytes_in 8 x ≡ l → Bytes l × (x ≡ number l)

@@ -2,19 +2,18 @@
 use mathlib.Core.Path.{◌≡◌, refl, sym, ap, ◌∙◌}
 use mathlib.Core.Bool.{Bool, true, false, cond}
 use mathlib.Core.List.{List, [], ◌∷◌}
-use mathlib.Core.Option.{Option, none, some}
+use Rattle.std.specs.Prelude.{Option, None, Some}
 use Prim.Native.Nat.{ℕ, ◌+◌, ◌*◌, ◌/◌, ◌%◌, ◌^◌, ◌<◌, ◌≤◌}
 use native.Mathlib.Omega.{arith}
 use lib.Bits.{bit_and, bit_or, bit_xor, and_le_r, and_block, or_block, xor_block, or_lt, xor_lt}
 use lib.Dec.{eqb, ltb}
 use lib.ListN.{length, get_or}
-use borrow.Author.Tests.{eqb-true, eqb-false, eq-eqb, ltb-true, lt-ltb}
+use borrow.Author.Tests.{eqb-true, eq-eqb, ltb-true}
 use Rattle.basics.specs.Range.{every}
 use Rattle.basics.proofs.RangeLaws.{by_cases, every_at}
 use Rattle.eight_bytes.specs.CodeNumber.{bytes_in}
 use Rattle.eight_bytes.proofs.ByteLaws.{Bytes, number, same, eight_are}
 use Rattle.hex_digits.specs.Digits.{decimal_digit, hex_digit, hex_from}
-use Rattle.hex_digits.specs.CodeDigits.{value_or, below}
 
 -- the number of what f makes of each byte
 abbrev pub each : (ℕ → ℕ) → List ℕ → ℕ
@@ -108,20 +107,20 @@ values_are l h = (values_both l h).1
 -- ---- one byte, each of them tried
 
 abbrev alike : Option ℕ → Option ℕ → Bool
-alike none none = true
-alike none (some y) = false
-alike (some x) none = false
-alike (some x) (some y) = eqb x y
+alike None None = true
+alike None (Some y) = false
+alike (Some x) None = false
+alike (Some x) (Some y) = eqb x y
 
 alike_is : (x y : Option ℕ) → alike x y ≡ true → x ≡ y
-alike_is none none t = refl
-alike_is none (some y) t = let z : ◌≡◌ {A = Bool} false true = t in cc
-alike_is (some x) none t = let z : ◌≡◌ {A = Bool} false true = t in cc
-alike_is (some x) (some y) t = ap some (eqb-true x y t)
+alike_is None None t = refl
+alike_is None (Some y) t = let z : ◌≡◌ {A = Bool} false true = t in cc
+alike_is (Some x) None t = let z : ◌≡◌ {A = Bool} false true = t in cc
+alike_is (Some x) (Some y) t = ap Some (eqb-true x y t)
 
-digit_is : (b : ℕ) → b < 2 ^ 8 → hex_digit b ≡ cond (eqb (misfit b) 0) (some (value b)) none
+digit_is : (b : ℕ) → b < 2 ^ 8 → hex_digit b ≡ cond (eqb (misfit b) 0) (Some (value b)) None
 unfolding every hex_digit decimal_digit
-digit_is b h = alike_is _ _ (every_at (λ k. alike (hex_digit k) (cond (eqb (misfit k) 0) (some (value k)) none)) 256 refl b h)
+digit_is b h = alike_is _ _ (every_at (λ k. alike (hex_digit k) (cond (eqb (misfit k) 0) (Some (value k)) None)) 256 refl b h)
 
 value_small : (b : ℕ) → b < 2 ^ 8 → misfit b ≡ 0 → value b < 16
 unfolding every
@@ -148,24 +147,24 @@ abbrev pub follow : ℕ → List ℕ → ℕ
 follow v [] = v
 follow v (b ∷ l) = follow (16 * v + value b) l
 
-pub digits_all : (l : List ℕ) (v : ℕ) → Bytes l → each misfit l ≡ 0 → hex_from v l ≡ some (follow v l)
+pub digits_all : (l : List ℕ) (v : ℕ) → Bytes l → each misfit l ≡ 0 → hex_from v l ≡ Some (follow v l)
 unfolding hex_from
 digits_all [] v h e = refl
 digits_all (b ∷ l) v h e =
     let m : misfit b ≡ 0 = omega arith in
-    let d : hex_digit b ≡ some (value b) = digit_is b h.0 ∙ rw (eq-eqb (misfit b) 0 m) in
+    let d : hex_digit b ≡ Some (value b) = digit_is b h.0 ∙ rw (eq-eqb (misfit b) 0 m) in
     rw d (digits_all l (16 * v + value b) h.1 (omega arith))
 
-pub digits_not : (l : List ℕ) (v : ℕ) → Bytes l → (each misfit l ≡ 0 → ⊥) → hex_from v l ≡ none
+pub digits_not : (l : List ℕ) (v : ℕ) → Bytes l → (each misfit l ≡ 0 → ⊥) → hex_from v l ≡ None
 unfolding hex_from
 digits_not [] v h e = absurd (e refl)
 digits_not (b ∷ l) v h e =
     by_cases (eqb (misfit b) 0)
     (λ t.
-    let d : hex_digit b ≡ some (value b) = digit_is b h.0 ∙ rw t in
+    let d : hex_digit b ≡ Some (value b) = digit_is b h.0 ∙ rw t in
     let m : misfit b ≡ 0 = eqb-true (misfit b) 0 t in
     rw d (digits_not l (16 * v + value b) h.1 (λ z. e (omega arith))))
-    (λ t. let d : hex_digit b ≡ none = digit_is b h.0 ∙ rw t in rw d)
+    (λ t. let d : hex_digit b ≡ None = digit_is b h.0 ∙ rw t in rw d)
 
 -- ---- eight values below 16 packed, two to a byte, the first highest
 
@@ -196,16 +195,6 @@ packed_is a b c d e f g h n ha hb hc hd he hf hg hh i =
     let gh : last % 256 ≡ 16 * g + h = omega arith in
     rw (two_down p, three_down p, ab.0, ab.1, cd.0, cd.1, ef.0, ef.1, gh) (omega arith)
 
-four_bytes : (w x y z : ℕ) → w < 256 → x < 256 → y < 256 → z < 256 → w * 16777216 + x * 65536 + y * 256 + z < 2 ^ 32
-four_bytes w x y z hw hx hy hz = omega arith
-
-byte_lt : (p : ℕ) → p % 256 < 256
-byte_lt p = omega arith
-
-pub packed_lt : (p : ℕ) → packed p < 2 ^ 32
-packed_lt p =
-    four_bytes (p % 256) (p / 65536 % 256) (p / 4294967296 % 256) (p / 281474976710656 % 256) (byte_lt p) (byte_lt (p / 65536)) (byte_lt (p / 4294967296)) (byte_lt (p / 281474976710656))
-
 -- ---- the eight bytes of a number
 module _ (x : ℕ) (room : x < 2 ^ 64) where
   abbrev l : List ℕ
@@ -235,19 +224,12 @@ module _ (x : ℕ) (room : x < 2 ^ 64) where
   pub values_fit : wrong ≡ 0 → n ≤ 0x0F0F0F0F0F0F0F0F
   values_fit e = rw n_is (each_small l (small e))
 
-  pub digits_some : wrong ≡ 0 → hex_from 0 l ≡ some (packed (n * 16 + n / 256))
+  pub digits_some : wrong ≡ 0 → hex_from 0 l ≡ Some (packed (n * 16 + n / 256))
   digits_some e =
       let s = small e in
       let v : (i : ℕ) → ℕ = λ i. value (get_or l i 0) in
       let r = packed_is (v 0) (v 1) (v 2) (v 3) (v 4) (v 5) (v 6) (v 7) n s.0 s.1.0 s.1.1.0 s.1.1.1.0 s.1.1.1.1.0 s.1.1.1.1.1.0 s.1.1.1.1.1.1.0 s.1.1.1.1.1.1.1.0 (n_is ∙ omega arith) in
-      digits_all l 0 bytes (sym wrong_is ∙ e) ∙ ap some (sym r)
+      digits_all l 0 bytes (sym wrong_is ∙ e) ∙ ap Some (sym r)
 
-  pub digits_none : (wrong ≡ 0 → ⊥) → hex_from 0 l ≡ none
+  pub digits_none : (wrong ≡ 0 → ⊥) → hex_from 0 l ≡ None
   digits_none e = digits_not l 0 bytes (λ t. e (wrong_is ∙ t))
-
-  -- eight digits stay below 2^32, so that number tells them from bytes that are none
-  pub digits_below : hex_from 0 l ≡ below (2 ^ 32) (value_or (2 ^ 32) (hex_from 0 l))
-  digits_below =
-      by_cases (eqb wrong 0)
-      (λ t. rw (digits_some (eqb-true wrong 0 t), lt-ltb (packed (n * 16 + n / 256)) (2 ^ 32) (packed_lt (n * 16 + n / 256))))
-      (λ t. rw (digits_none (eqb-false wrong 0 t)))

@@ -1,7 +1,6 @@
 -- The bits of an enabled bank that is faulty: the fewest if it starts above its end, the most of its row code if it is too long.
 use mathlib.Core.Path.{◌≡◌, refl, sym, ◌∙◌}
 use mathlib.Core.Bool.{true, false, cond}
-use mathlib.Core.List.{List}
 use Prim.Native.Nat.{ℕ, zero, suc, ◌+◌, ◌-◌, ◌*◌, ◌/◌, ◌^◌, ◌≤◌, ◌<◌}
 use native.Mathlib.Omega.{arith}
 use lib.Dec.{ltb}
@@ -9,6 +8,8 @@ use lib.ListN.{get_or}
 use lib.Pow.{pow_mono}
 use borrow.Author.Tests.{ltb-true, leb-false, le-leb, lt-leb, lt-ltb, not-true}
 use Rattle.basics.proofs.RangeLaws.{by_cases, first_at}
+use Rattle.std.specs.Prelude.{Some, None}
+use Rattle.address_map.specs.declared.fields.Fields.{Fields}
 use Rattle.banks.specs.Setup.{fewest_row_bits, megabytes, row_bits_of, fits, column_limit, column_bits_of}
 use Rattle.banks.specs.Judge.{inverted, too_long, faulty}
 use Rattle.banks.proofs.FieldLaws.{limit_between, rows_by_code, fits_in}
@@ -16,7 +17,6 @@ use Rattle.address_map.specs.CodeFields.{code_by, longest_of, enabled_by}
 use Rattle.address_map.specs.CodeSelection.{megabyte_bits, bits_unless_faulty}
 use Rattle.address_map.proofs.SetupLaws.{code_below, decoded_enabled}
 use Rattle.address_map.proofs.LongestLaws.{fits_longest}
-use Rattle.address_map.proofs.SizeLaws.{few_bits}
 
 -- so long a span takes the most row bits of its code
 rows_too_long : (code L : ℕ) → code < 4 → longest_of code < L → row_bits_of code L ≡ row_bits_of code 1024
@@ -56,13 +56,13 @@ most_is (suc (suc (suc zero))) h = refl
 most_is (suc (suc (suc (suc k)))) h = absurd (omega arith)
 
 pub faulty_bits :
-    (f : List ℕ) (n : ℕ)
+    (f : Fields) (n : ℕ)
     → faulty (enabled_by f n) ≡ true
-    → cond (ltb (get_or f (8 + n) 0) (get_or f n 0)) (code_by f n) (2 * code_by f n + 1 + code_by f n / 3) ≡ megabyte_bits (enabled_by f n)
+    → cond (ltb (get_or f.lasts n 0) (get_or f.starts n 0)) (code_by f n) (2 * code_by f n + 1 + code_by f n / 3) ≡ megabyte_bits (enabled_by f n)
 unfolding faulty inverted too_long megabyte_bits enabled_by megabytes
 faulty_bits f n bad =
-    let start = get_or f n 0 in
-    let last = get_or f (8 + n) 0 in
+    let start = get_or f.starts n 0 in
+    let last = get_or f.lasts n 0 in
     let code = code_by f n in
     let L = last + 1 - start in
     by_cases (ltb last start)
@@ -76,20 +76,20 @@ faulty_bits f n bad =
     let rows = rows_too_long code L (code_below f n) long in
     rw (t, columns_too_long R L (decoded_enabled f n).rows_least full, rows) (omega (arith, most_is code (code_below f n))))
 
--- 32 stands for a faulty bank alone
-pub sound_bits : (f : List ℕ) (n : ℕ) → bits_unless_faulty (enabled_by f n) < 32 → bits_unless_faulty (enabled_by f n) ≡ megabyte_bits (enabled_by f n)
+-- a faulty bank alone has no bits
+pub sound_bits : (f : Fields) (n k : ℕ) → Some k ≡ bits_unless_faulty (enabled_by f n) → k ≡ megabyte_bits (enabled_by f n)
 unfolding bits_unless_faulty
-sound_bits f n =
-    by_cases (faulty (enabled_by f n)) (λ t. rw t (λ l. absurd (omega arith))) (λ t. rw t (λ l. refl))
+sound_bits f n k =
+    by_cases (faulty (enabled_by f n)) (λ t. rw t (λ e. absurd (cc))) (λ t. rw t (λ e. cc))
 
-pub faulty_known : (f : List ℕ) (n : ℕ) → 32 ≤ bits_unless_faulty (enabled_by f n) → faulty (enabled_by f n) ≡ true
+pub faulty_known : (f : Fields) (n : ℕ) → None ≡ bits_unless_faulty (enabled_by f n) → faulty (enabled_by f n) ≡ true
 unfolding bits_unless_faulty
 faulty_known f n =
-    by_cases (faulty (enabled_by f n)) (λ t _. t) (λ t. rw t (λ l. absurd (omega (arith, l, few_bits (enabled_by f n) (decoded_enabled f n)))))
+    by_cases (faulty (enabled_by f n)) (λ t _. t) (λ t. rw t (λ e. absurd (cc)))
 
 -- an enabled bank is made of its fields
 pub bank_parts :
-    (f : List ℕ) (n : ℕ)
-    → record { enabled = true; start = get_or f n 0; last = get_or f (8 + n) 0; row_bits = (enabled_by f n).row_bits; column_bits = (enabled_by f n).column_bits } ≡ enabled_by f n
+    (f : Fields) (n : ℕ)
+    → record { enabled = true; start = get_or f.starts n 0; last = get_or f.lasts n 0; row_bits = (enabled_by f n).row_bits; column_bits = (enabled_by f n).column_bits } ≡ enabled_by f n
 unfolding enabled_by
 bank_parts f n = refl

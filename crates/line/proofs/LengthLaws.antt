@@ -1,8 +1,10 @@
 -- No output line is longer than `longest_output_line`.
 use mathlib.Core.Path.{◌≡◌, refl}
 use mathlib.Core.List.{List, [], ◌∷◌, ◌++◌, append-nil}
-use mathlib.Core.Option.{Option, none, some}
-use Prim.Native.Nat.{ℕ, ◌-◌, ◌*◌, ◌≤◌}
+use mathlib.Core.Option as maybe
+use mathlib.Core.Option.{none, some}
+use Rattle.std.specs.Prelude.{Option, None, Some}
+use Prim.Native.Nat.{ℕ, ◌-◌, ◌≤◌}
 use native.Mathlib.Omega.{arith}
 use lib.ListN.{length, get_or, take, drop, length-take, length-append, length-replicate}
 use Rattle.basics.proofs.RangeLaws.{by_cases}
@@ -10,7 +12,6 @@ use Rattle.refusals.specs.Paper.{Declined, Outcome, refused, given}
 use Rattle.refusals.proofs.ChainLaws.{else_left, else_right}
 use Rattle.register_calls.specs.Calls.{read_at, declined}
 use Rattle.calls.specs.declared.Kind.{Kind}
-use Rattle.calls.specs.declared.Kind.TheVariants.{Clean, Corrected, Uncorrectable, Stored, NoBank, Flipped}
 use Rattle.calls.specs.Calls.{MemoryCall, read, write, flip, scrub, burst_read, burst_write, read_in, write_in, scrub_in, crosses, room, next_doubleword, parts, Call, memory, read_register, write_register}
 use Rattle.calls.specs.Spans.{by_call, by_arguments, by_count, by_spans, missed}
 use Rattle.calls.specs.State.{State}
@@ -22,33 +23,16 @@ use Rattle.banks.specs.Map.{cell_of}
 use Rattle.machine.specs.Cells.{on_cell, read_cell}
 use Rattle.machine.specs.Calls.{setup, spans_of, unlent, refusal, on_target, access_at, access, accesses, performed, memory_call, called}
 use Rattle.parser.specs.Format.{parse}
-use Rattle.print.specs.Digits.{decimal, hex_pairs}
-use Rattle.print.specs.Output.{refused_text, accepted_text, letter_of, malformed_text, register_write_text, register_read_text, bit_text, kind_text, kinds_text, kinds_and_bytes_text, answer_text, call_text}
+use Rattle.print.specs.Digits.{hex_pairs}
+use Rattle.print.specs.Output.{accepted_text, letter_of, malformed_text, register_write_text, register_read_text, kinds_text, kinds_and_bytes_text, answer_text, call_text}
 use Rattle.print.specs.CodePrinted.{longest_output_line}
-use Rattle.print.proofs.PrintLaws.{decimal_few, pairs_length}
+use Rattle.print.proofs.PrintLaws.{refused_few, kinds_few, pairs_length}
 use Rattle.line.specs.Line.{call_of, or_malformed, line_of}
-
-refused_few : (l n : ℕ) → length (refused_text l n) ≤ 5
-unfolding refused_text
-refused_few l n = omega (arith, length-append (decimal n) (0x0A ∷ []), decimal_few n)
 
 register_write_few : (d : Declined) → length (register_write_text d) ≤ 5
 unfolding register_write_text
 register_write_few none = omega arith
 register_write_few (some n) = refused_few 0x63 (get_or n 0 0)
-
-kind_few : (k : Kind) → length (kind_text k) ≤ 5
-unfolding bit_text
-kind_few Clean = omega arith
-kind_few (Corrected b) = omega (arith, decimal_few b)
-kind_few Uncorrectable = omega arith
-kind_few Stored = omega arith
-kind_few NoBank = omega arith
-kind_few Flipped = omega arith
-
-kinds_few : (ks : List Kind) → length (kinds_text ks) ≤ 5 * length ks
-kinds_few [] = omega arith
-kinds_few (k ∷ ks) = omega (arith, length-append (kind_text k) (kinds_text ks), kind_few k, kinds_few ks)
 
 -- the line of a read, and that of a write or a scrub
 read_line_few : (bs : List ℕ) (ks : List Kind) → length bs ≤ 8 → length ks ≤ 4 → length (accepted_text 0x72 (kinds_and_bytes_text bs ks)) ≤ longest_output_line
@@ -75,7 +59,7 @@ module _ (cols : List ℕ) (st : State) where
   unfolding access access_at on_target on_cell read_cell missed
   read_few a n = go (cell_of (setup st) a)
     where
-      go : (o : Option ℕ) → length (on_target cols o st.cells (read_in a n)).0.bytes ≤ n
+      go : (o : maybe.Option ℕ) → length (on_target cols o st.cells (read_in a n)).0.bytes ≤ n
       go none = omega (arith, length-replicate {A = ℕ} n 0xFF)
       go (some k) = simp length-take (omega arith)
 
@@ -118,10 +102,10 @@ module _ (cols : List ℕ) (st : State) where
 
   or_malformed_few : (o : Option Call) → length (or_malformed cols st o).0 ≤ longest_output_line
   unfolding or_malformed call_of called memory_call malformed_text
-  or_malformed_few none = let h = refused_few 0x3F 18 in omega arith
-  or_malformed_few (some (memory c)) = call_few c (refusal st c) refl
-  or_malformed_few (some (read_register o)) = let h = register_read_few (read_at st.registers o) in omega arith
-  or_malformed_few (some (write_register o v)) = let h = register_write_few (declined st.registers o v) in omega arith
+  or_malformed_few None = let h = refused_few 0x3F 18 in omega arith
+  or_malformed_few (Some (memory c)) = call_few c (refusal st c) refl
+  or_malformed_few (Some (read_register o)) = let h = register_read_few (read_at st.registers o) in omega arith
+  or_malformed_few (Some (write_register o v)) = let h = register_write_few (declined st.registers o v) in omega arith
 
   pub line_few : (line : List ℕ) → length (line_of cols st line).0 ≤ longest_output_line
   unfolding line_of

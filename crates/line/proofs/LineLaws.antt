@@ -1,37 +1,37 @@
 -- What a line prints and leaves, from what its call returned.
+use Rattle.std.specs.Prelude.{Result, ⊤}
 use mathlib.Core.Path.{◌≡◌, refl, sym, ap, ◌∙◌}
 use mathlib.Core.Bool.{cond}
-use mathlib.Core.List.{List, [], ◌∷◌}
-use mathlib.Core.Option.{Option, none, some}
+use mathlib.Core.List.{List, [], ◌∷◌, ◌++◌, append_assoc}
+use mathlib.Core.Option.{none, some}
+use Rattle.std.specs.Prelude.{Option}
 use Prim.Native.Nat.{ℕ, ◌<◌, ◌≤◌}
 use native.Mathlib.Omega.{arith}
 use lib.Dec.{ltb}
-use lib.ListN.{length, take}
-use lib.Seq.{take_all}
+use lib.ListN.{length, take, drop, take-append-drop}
+use lib.Seq.{take_all, length-take-le}
+use Rattle.std.proofs.lemmas.List.{drop-append-le}
 use borrow.Author.Tests.{lt-ltb, ltb-true, ltb-false, ne_eqb, le-leb, lt-leb}
 use Rattle.basics.proofs.RangeLaws.{by_cases}
-use Rattle.refusals.specs.Paper.{Declined, ◌else◌, paper_verdict, Outcome, refused, given}
+use Rattle.refusals.specs.Paper.{Declined, ◌else◌, paper_verdict, paper_outcome, Outcome, refused, given}
 use Rattle.registers.specs.declared.Registers.{Registers}
-use Rattle.register_calls.specs.declared.RegisterRead.{RegisterRead}
-use Rattle.register_calls.specs.declared.Written.{Written}
-use Rattle.register_calls.specs.Calls.{read_at, write_at, paper_written, paper_register_read}
-use Rattle.calls.specs.declared.Answer.{Answer}
-use Rattle.calls.specs.Calls.{MemoryCall, read, flip, CallAnswer, Call, memory, read_register, write_register}
+use Rattle.refusals.specs.declared.Refusal.{Refusal}
+use Rattle.register_calls.specs.Calls.{read_at, write_at}
+use Rattle.calls.specs.Calls.{MemoryCall, read, CallAnswer, memory, read_register, write_register}
 use Rattle.calls.specs.Spans.{by_call, by_arguments, by_count}
 use Rattle.calls.specs.State.{State, state}
-use Rattle.calls.specs.Answers.{Effect, paper_answer, leaves, effect_of}
+use Rattle.calls.specs.Answers.{Answer, Effect, paper_answer, leaves, effect_of}
 use Rattle.banks.specs.Judge.{not_ready}
 use Rattle.machine.specs.Calls.{setup, refusal, performed, memory_call, called}
-use Rattle.machine.proofs.FlipLaws.{flip_call_keeps_registers}
-use Rattle.parser.specs.declared.request.Parsed.{Parsed}
 use Rattle.parser.specs.declared.request.Request.{Request}
-use Rattle.parser.specs.CodeParsed.{asked, parsed_as, meant}
+use Rattle.parser.specs.CodeParsed.{parsed_as, meant}
 use Rattle.parser.specs.Format.{parse}
 use Rattle.parser.proofs.ParsedLaws.{parsed_means}
 use Rattle.print.specs.Output.{verdict_text, register_write_text, register_read_text, call_text}
 use Rattle.print.specs.CodePrinted.{longest_output_line, print_into, read_line}
 use Rattle.print.proofs.PrintLaws.{print_start, read_text, register_write_text_lem}
 use Rattle.line.specs.Line.{Printed, printed_effect, call_of, or_malformed, line_of}
+use Rattle.line.proofs.LengthLaws.{line_few}
 use Rattle.line.specs.CodeLinePrinted.{LineEffect, printed_into, line_into}
 
 -- ---- a memory call
@@ -51,13 +51,6 @@ pub memory_line : (cols : List ℕ) (st : State) (c : MemoryCall) (y : Answer) (
 unfolding call_of
 memory_line cols st c y st' buffer lent t e g =
     ap (λ (u : List ℕ). (u, st')) (sym g) ∙ ap (printed_effect c) e ∙ any_buffer cols st c lent []
-
--- a flip that answered y, whose record need not be taken back
-pub flip_line : (cols : List ℕ) (st : State) (a b : ℕ) (y : Answer) (r : Registers) (cells t : List ℕ) → leaves y (state r cells) [] ≡ called cols st (flip a b) []
-    → call_text (flip a b) (paper_answer y) [] ≡ t → (t, state st.registers cells) ≡ call_of cols st (memory (flip a b))
-flip_line cols st a b y r cells t e g =
-    let same : r ≡ st.registers = ap (λ (x : Effect). x.state.registers) e ∙ flip_call_keeps_registers cols st a b in
-    memory_line cols st (flip a b) y (state st.registers cells) [] [] t (rw same at e) g
 
 -- ---- a read
 
@@ -111,15 +104,15 @@ module _ (cols : List ℕ) (st : State) (a : ℕ) where
       let same : length lent ≡ n = k ∙ all in
       memory_line cols st (read a n) y st' buffer lent _ (rw same at h) (read_text buffer y a n ∙ ap (read_line y) (sym (take_all 8 buffer (omega arith)))))
 
-pub register_write_line : (cols : List ℕ) (r : Registers) (cells : List ℕ) (o v : ℕ) (w : Written) → paper_written w ≡ write_at r o v
-    → (verdict_text 0x63 (paper_verdict w.verdict), state w.registers cells) ≡ call_of cols (state r cells) (write_register o v)
+pub register_write_line : (cols : List ℕ) (r : Registers) (cells : List ℕ) (o v : ℕ) (x : Result ⊤ Refusal) (after : Registers) → (paper_verdict x, after) ≡ write_at r o v
+    → (verdict_text 0x63 (paper_verdict x), state after cells) ≡ call_of cols (state r cells) (write_register o v)
 unfolding call_of write_at
-register_write_line cols r cells o v w e =
-    ap (λ (t : List ℕ). (t, state w.registers cells)) (register_write_text_lem (paper_verdict w.verdict))
+register_write_line cols r cells o v x after e =
+    ap (λ (t : List ℕ). (t, state after cells)) (register_write_text_lem (paper_verdict x))
     ∙ ap (λ (p : Declined × Registers). (register_write_text p.0, state p.1 cells)) e
 
-pub register_read_line : (cols : List ℕ) (r : Registers) (cells : List ℕ) (o : ℕ) (x : RegisterRead) → paper_register_read x ≡ read_at r o
-    → (register_read_text (paper_register_read x), state r cells) ≡ call_of cols (state r cells) (read_register o)
+pub register_read_line : (cols : List ℕ) (r : Registers) (cells : List ℕ) (o : ℕ) (x : Result ℕ Refusal) → paper_outcome x ≡ read_at r o
+    → (register_read_text (paper_outcome x), state r cells) ≡ call_of cols (state r cells) (read_register o)
 unfolding call_of
 register_read_line cols r cells o x e = ap (λ (y : Outcome ℕ). (register_read_text y, state r cells)) e
 
@@ -130,10 +123,21 @@ pub line_printed : (n : ℕ) (out out' t : List ℕ) (st : State) (p : Printed) 
 line_printed n out out' t st p room e f =
     ap (λ (x : ℕ × List ℕ). (x.0, x.1, st)) (e ∙ print_start t out room) ∙ ap (printed_into out) f
 
--- what a request prints, once it is known which it is
-pub asked_line : (cols : List ℕ) (st : State) (out bs : List ℕ) (q r : Request) → q ≡ r
-    → printed_into out (or_malformed cols st (asked r bs)) ≡ printed_into out (or_malformed cols st (asked q bs))
-asked_line cols st out bs q r e = ap (λ (x : Request). printed_into out (or_malformed cols st (asked x bs))) (sym e)
+-- what was put out to the first bytes of an output, as many as the longest line has, is put out to the output
+whole_rest : (t out : List ℕ) → length t ≤ longest_output_line → longest_output_line ≤ length out
+    → (t ++ drop (length t) (take longest_output_line out)) ++ drop longest_output_line out ≡ t ++ drop (length t) out
+whole_rest t out few h =
+    let start = take longest_output_line out in
+    let rest = drop longest_output_line out in
+    append_assoc t (drop (length t) start) rest
+    ∙ ap (λ (l : List ℕ). t ++ l)
+    (sym (drop-append-le (length t) start rest (omega (arith, length-take-le longest_output_line out h))) ∙ ap (drop (length t)) (take-append-drop longest_output_line out))
+
+whole_output : (out : List ℕ) (n : ℕ) (ws : List ℕ) (st : State) (p : Printed) → longest_output_line ≤ length out → length p.0 ≤ longest_output_line
+    → ◌≡◌ {A = LineEffect} (n, ws, st) (printed_into (take longest_output_line out) p)
+    → ◌≡◌ {A = LineEffect} (n, ws ++ drop longest_output_line out, st) (printed_into out p)
+whole_output out n ws st p h few e =
+    ap (λ (x : LineEffect). (x.0, x.1 ++ drop longest_output_line out, x.2)) e ∙ ap (λ (l : List ℕ). (length p.0, l, p.1)) (whole_rest p.0 out few h)
 
 module _ (cols : List ℕ) (st : State) (line out : List ℕ) where
   pub room_printed : longest_output_line ≤ length out → line_into cols st line out ≡ printed_into out (line_of cols st line)
@@ -144,7 +148,11 @@ module _ (cols : List ℕ) (st : State) (line out : List ℕ) where
   unfolding line_into
   no_room h = rw (lt-leb longest_output_line (length out) h)
 
-  -- what a line asks for, from what the code parsed
-  pub parsed_line : (p : Parsed) → longest_output_line ≤ length out → p ≡ parsed_as (parse line) → printed_into out (or_malformed cols st (meant p)) ≡ line_into cols st line out
+  -- what a line prints that asks for nothing, and one that asks for a call, from what the code parsed and put out to the start of the output
+  pub executed : (p : Option Request) (start : List ℕ) (n : ℕ) (ws : List ℕ) (st' : State) → longest_output_line ≤ length out → start ≡ take longest_output_line out
+      → p ≡ parsed_as (parse line) → ◌≡◌ {A = LineEffect} (n, ws, st') (printed_into start (or_malformed cols st (meant p)))
+      → ◌≡◌ {A = LineEffect} (n, ws ++ drop longest_output_line out, st') (line_into cols st line out)
   unfolding line_of
-  parsed_line p h e = ap (λ (c : Option Call). printed_into out (or_malformed cols st c)) (ap meant e ∙ parsed_means line) ∙ sym (room_printed h)
+  executed p start n ws st' h s e f =
+      let asks : or_malformed cols st (meant p) ≡ line_of cols st line = ap (or_malformed cols st) (ap meant e ∙ parsed_means line) in
+      whole_output out n ws st' (line_of cols st line) h (line_few cols st line) (f ∙ rw (s, asks)) ∙ sym (room_printed h)

@@ -1,6 +1,5 @@
 -- What a line prints, and what it leaves of the record and the cells. The columns of the check code come first.
-use Rattle.std.specs.Prelude.{ℕ, List, []}
-use Rattle.std.proofs.Math.Option.{Option, none, some}
+use Rattle.std.specs.Prelude.{ℕ, List, [], Option, None, Some}
 use Rattle.register_calls.specs.Calls.{read_at, declined, written}
 use Rattle.calls.specs.Calls.{MemoryCall, Call, memory, read_register, write_register}
 use Rattle.calls.specs.State.{State, state}
@@ -26,8 +25,8 @@ module _ (cols : List ℕ) where
 
   -- LINE-11, REF-18: a malformed line changes nothing
   unfoldable pub or_malformed : State → Option Call → Printed
-  or_malformed st none = (malformed_text, st)
-  or_malformed st (some c) = call_of st c
+  or_malformed st None = (malformed_text, st)
+  or_malformed st (Some c) = call_of st c
 
   -- LINE-10: what one line prints and leaves
   unfoldable pub line_of : State → List ℕ → Printed

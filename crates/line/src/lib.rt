@@ -1,37 +1,34 @@
 // Executes a line. What it prints is written to the start of the lent output, which has room for the longest line.
 #![tactic(auto)]
 
-ghost use Rattle.std.specs.Prelude.{◌≡◌, ℕ, ◌≤◌, List, cond, ltb, length};
+ghost use Rattle.std.specs.Prelude.{◌≡◌, ℕ, List, cond, ltb};
 ghost use Rattle.ecc.specs.Columns.{columns};
 ghost use Rattle.calls.specs.Calls.{read, write, flip, scrub, memory, read_register, write_register};
 ghost use Rattle.calls.specs.State.{lent_state};
 ghost use Rattle.parser.specs.CodeParsed.{asked};
 ghost use Rattle.print.specs.Output.{malformed_text};
-ghost use Rattle.print.specs.CodePrinted.{longest_output_line, at_start};
-ghost use Rattle.line.specs.Line.{call_of, or_malformed};
+ghost use Rattle.print.specs.CodePrinted.{at_start};
+ghost use Rattle.line.specs.Line.{call_of};
 ghost use Rattle.line.specs.CodeLinePrinted.{executed_in_place, printed_into, line_into};
 
 use parser::Request;
 use print::LONGEST_OUTPUT_LINE;
-use refusals::{Refusal, Verdict};
+use refusals::Refusal;
 use registers::Registers;
 
+// The start of an output, with room for the longest line.
+type Room = [u8; LONGEST_OUTPUT_LINE];
+
 // `c`
-fn register_write_line(registers: &mut [u8; 256], offset: u8, value: u8, out: &mut [u8]) -> usize
-    requires { longest_output_line ≤ length out.old }
+fn register_write_line(registers: &mut [u8; 256], offset: u8, value: u8, out: &mut Room) -> usize
     ensures { (cells : List ℕ) → executed_in_place result registers.new cells out.new ≡ printed_into out.old (call_of columns (lent_state registers.old cells) (write_register offset value)) }
 {
-    let written = register_calls::write(Registers { bytes: *registers }, offset as u32, value);
-    let verdict = written.verdict;
-    let after = written.registers;
-    let kept = after.bytes;
-    *registers = kept;
+    let verdict = register_calls::write_in_place(registers, offset as u32, value);
     print::verdict_line(b'c', verdict, out)
 }
 
 // `g`
-fn register_read_line(registers: &[u8; 256], offset: u8, out: &mut [u8]) -> usize
-    requires { longest_output_line ≤ length out.old }
+fn register_read_line(registers: &[u8; 256], offset: u8, out: &mut Room) -> usize
     ensures { (cells : List ℕ) → executed_in_place result registers.now cells out.new ≡ printed_into out.old (call_of columns (lent_state registers.now cells) (read_register offset)) }
 {
     print::register_read(
@@ -46,46 +43,33 @@ fn write_line(
     cells: &mut [u8],
     address: u32,
     bytes: &[u8],
-    out: &mut [u8],
+    out: &mut Room,
 ) -> usize
-    requires { longest_output_line ≤ length out.old }
     ensures { executed_in_place result registers.new cells.new out.new ≡ printed_into out.old (call_of columns (lent_state registers.old cells.old) (memory (write address bytes.now))) }
 {
-    let called = memory_calls::write(Registers { bytes: *registers }, cells, address, bytes);
-    let answer = called.answer;
-    let after = called.registers;
-    let kept = after.bytes;
-    *registers = kept;
+    let answer = memory::write_in_place(registers, cells, address, bytes);
     print::kinds(b'w', answer, out)
 }
 
-// `f`, which touches no register: the record that comes back need not be kept.
+// `f`, which touches no register.
 fn flip_line(
     registers: &[u8; 256],
     cells: &mut [u8],
     address: u32,
     bit: u8,
-    out: &mut [u8],
+    out: &mut Room,
 ) -> usize
-    requires { longest_output_line ≤ length out.old }
     ensures { executed_in_place result registers.now cells.new out.new ≡ printed_into out.old (call_of columns (lent_state registers.now cells.old) (memory (flip address bit))) }
 {
-    let called = memory_calls::flip(Registers { bytes: *registers }, cells, address, bit as u32);
-    let answer = called.answer;
-    let verdict = answer.verdict;
-    print::verdict_line(b'f', verdict, out)
+    let answer = memory::flip_in_place(registers, cells, address, bit as u32);
+    print::verdict_line(b'f', answer.and(Ok(())), out)
 }
 
 // `s`
-fn scrub_line(registers: &mut [u8; 256], cells: &mut [u8], address: u32, out: &mut [u8]) -> usize
-    requires { longest_output_line ≤ length out.old }
+fn scrub_line(registers: &mut [u8; 256], cells: &mut [u8], address: u32, out: &mut Room) -> usize
     ensures { executed_in_place result registers.new cells.new out.new ≡ printed_into out.old (call_of columns (lent_state registers.old cells.old) (memory (scrub address))) }
 {
-    let called = memory_calls::scrub(Registers { bytes: *registers }, cells, address);
-    let answer = called.answer;
-    let after = called.registers;
-    let kept = after.bytes;
-    *registers = kept;
+    let answer = memory::scrub_in_place(registers, cells, address);
     print::kinds(b's', answer, out)
 }
 
@@ -93,7 +77,7 @@ fn scrub_line(registers: &mut [u8; 256], cells: &mut [u8], address: u32, out: &m
 fn buffer_length(count: u8) -> usize
     ensures { result ≡ cond (ltb 8 count) 9 count }
 {
-    if 8 < count { 9 } else { count as usize }
+    count.min(9) as usize
 }
 
 // `r`
@@ -102,50 +86,38 @@ fn read_line(
     cells: &[u8],
     address: u32,
     count: u8,
-    out: &mut [u8],
+    out: &mut Room,
 ) -> usize
-    requires { longest_output_line ≤ length out.old }
     ensures { executed_in_place result registers.new cells.now out.new ≡ printed_into out.old (call_of columns (lent_state registers.old cells.now) (memory (read address count))) }
 {
     let mut buffer = [0u8; 9];
     let n = buffer_length(count);
-    let called = memory_calls::read(
-        Registers { bytes: *registers },
-        cells,
-        address,
-        &mut buffer[..n],
-    );
-    let answer = called.answer;
-    let after = called.registers;
-    let kept = after.bytes;
-    *registers = kept;
+    let answer = memory::read_in_place(registers, cells, address, &mut buffer[..n]);
     print::read(answer, &buffer[..n], out)
 }
 
 // LINE-11: a line that asks for nothing.
-fn malformed_line(out: &mut [u8]) -> usize
-    requires { longest_output_line ≤ length out.old }
+fn malformed_line(out: &mut Room) -> usize
     ensures { (result, out.new) ≡ at_start malformed_text out.old }
 {
-    print::verdict_line(b'?', Verdict::Refused(Refusal::MalformedLine), out)
+    print::verdict_line(b'?', Err(Refusal::MalformedLine), out)
 }
 
-// What a request asks for, with the bytes of a write.
+// What a request asks for.
 fn request_line(
     registers: &mut [u8; 256],
     cells: &mut [u8],
     request: Request,
-    bytes: &[u8],
-    out: &mut [u8],
+    out: &mut Room,
 ) -> usize
-    requires { longest_output_line ≤ length out.old }
-    ensures { executed_in_place result registers.new cells.new out.new ≡ printed_into out.old (or_malformed columns (lent_state registers.old cells.old) (asked request bytes.now)) }
+    ensures { executed_in_place result registers.new cells.new out.new ≡ printed_into out.old (call_of columns (lent_state registers.old cells.old) (asked request)) }
 {
     match request {
-        Request::Malformed => malformed_line(out),
         Request::WriteRegister(offset, value) => register_write_line(registers, offset, value, out),
         Request::ReadRegister(offset) => register_read_line(registers, offset, out),
-        Request::Write(address) => write_line(registers, cells, address, bytes, out),
+        Request::Write(address, bytes) => {
+            write_line(registers, cells, address, bytes.as_slice(), out)
+        }
         Request::Read(address, count) => read_line(registers, cells, address, count, out),
         Request::Flip(address, bit) => flip_line(registers, cells, address, bit, out),
         Request::Scrub(address) => scrub_line(registers, cells, address, out),
@@ -162,12 +134,11 @@ pub fn execute_in_place(
 ) -> usize
     ensures { executed_in_place result registers.new cells.new out.new ≡ line_into columns (lent_state registers.old cells.old) line.now out.old }
 {
-    if out.len() < LONGEST_OUTPUT_LINE {
+    let Some(room) = out.first_chunk_mut() else {
         return 0;
+    };
+    match parser::parse(line) {
+        Some(request) => request_line(registers, cells, request, room),
+        None => malformed_line(room),
     }
-    let parsed = parser::parse(line);
-    let request = parsed.request;
-    let bytes = parsed.bytes;
-    let n = parsed.count;
-    request_line(registers, cells, request, &bytes[..n], out)
 }

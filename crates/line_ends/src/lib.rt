@@ -4,7 +4,8 @@
 ghost use Rattle.std.specs.Prelude.{◌≡◌, ◌+◌, ◌≤◌, length, take, drop};
 ghost use Rattle.line_ends.specs.LineEnd.{line_length};
 
-// How many of the eight bytes from an index on stand before the first LF among them.
+// How many of the eight bytes from an index on stand before the first LF among them. Here and below a length and no Option: without an LF a line ends where
+// its text does (LINE-1).
 fn before_lf(chunk: &[u8], at: usize) -> usize
     requires { at + 8 ≤ length chunk.now }
     ensures { result ≡ line_length (take 8 (drop at chunk.now)) }
@@ -21,14 +22,12 @@ fn rest_end(chunk: &[u8], from: usize) -> usize
     requires { from ≤ length chunk.now }
     ensures { result ≡ from + line_length (drop from chunk.now) }
 {
-    let mut i = from;
-    while i < chunk.len() {
+    for i in from..chunk.len() {
         if chunk[i] == b'\n' {
             return i;
         }
-        i += 1;
     }
-    i
+    chunk.len()
 }
 
 // LINE-1: the index of the first LF from `from` on, or the length if there is none; eight bytes at a time. If `from` is past the end, `from` itself.
@@ -38,13 +37,14 @@ pub fn line_end(chunk: &[u8], from: usize) -> usize
     if chunk.len() < from {
         return from;
     }
-    let mut i = from;
-    while 8 <= chunk.len() - i {
-        let n = before_lf(chunk, i);
-        if n < 8 {
-            return i + n;
+    for at in (from..chunk.len()).step_by(8) {
+        if chunk.len() - at < 8 {
+            return rest_end(chunk, at);
         }
-        i += 8;
+        let n = before_lf(chunk, at);
+        if n < 8 {
+            return at + n;
+        }
     }
-    rest_end(chunk, i)
+    chunk.len()
 }

@@ -1,23 +1,25 @@
 -- Laws of a step over a chunk: its lines, its output, what is carried.
 use mathlib.Core.Path.{◌≡◌, refl, sym, ap, subst, ◌∙◌}
-use mathlib.Core.Bool.{true, false, cond}
+use mathlib.Core.Bool.{false, cond}
+use Rattle.std.specs.Prelude.{None, Some, unwrap_or}
 use mathlib.Core.List.{List, [], ◌∷◌, ◌++◌, append_assoc, append-nil}
-use Prim.Native.Nat.{ℕ, zero, suc, ◌+◌, ◌*◌, ◌-◌, ◌≤◌, ◌<◌}
+use Rattle.std.proofs.lemmas.List.{take_min}
+use Prim.Native.Nat.{ℕ, min, suc, ◌+◌, ◌*◌, ◌-◌, ◌≤◌, ◌<◌}
 use native.Mathlib.Omega.{arith}
-use lib.Dec.{ltb, leb, eqb}
-use lib.ListN.{length, get_or, set, take, drop, length-replicate, length-append, length-drop, drop_of_length-le, take-append-drop}
-use lib.Seq.{drop-cons, set_at, drop-drop, take_all, take-append-add, take-append_seam, drop-append-add, drop-append_seam, length-take-le, paste, length-paste, take-paste, drop-paste}
+use lib.Dec.{leb, eqb}
+use lib.ListN.{length, take, drop, length-append, length-drop, drop_of_length-le, take-append-drop}
+use lib.Seq.{drop-drop, take_all, take-append-add, take-append_seam, drop-append-add, drop-append_seam, length-take-le}
 use borrow.Author.Tests.{eqb-true, ne_eqb, le-leb, lt-leb}
 use borrow.Rule.Slice.PartMut.{mid_of, put_mid}
 use Rattle.basics.proofs.RangeLaws.{by_cases}
-use Rattle.parser.proofs.PaddedLaws.{zeros, drop_zeros, zeros_later, padded_is}
+use Rattle.parser.proofs.PaddedLaws.{zeros, drop_zeros}
 use Rattle.print.specs.CodePrinted.{longest_output_line}
-use Rattle.print.proofs.PrintLaws.{least_le, take_least}
 use Rattle.line.specs.Line.{Printed, line_of}
 use Rattle.calls.specs.State.{State, state}
 use Rattle.lines.specs.Text.{most_carried, Fed, carrying, fed_byte, fed, after, ended}
 use Rattle.line.specs.CodeLinePrinted.{LineEffect, printed_into, line_into}
 use Rattle.line_ends.specs.LineEnd.{line_length}
+use Rattle.line_ends.proofs.LineEndLaws.{end_within}
 use Rattle.lines.specs.declared.buffers.Carry.{Carry}
 use Rattle.lines.specs.declared.feed.Kept.{Kept}
 use Rattle.lines.specs.CodeStepped.{carried_of, kept_of, carry_of, kept_as, Appended, Reached, LinesReached, StepEffect, step_of, end_into}
@@ -25,71 +27,43 @@ use Rattle.line.proofs.LineLaws.{room_printed}
 use Rattle.line.proofs.LengthLaws.{line_few}
 use Rattle.lines.proofs.TextLaws.{line_take, fed_line, fed_plain}
 
--- ---- bytes cleared one after the other
-
-zeros_next : (i : ℕ) (l : List ℕ) → zeros i ++ 0 ∷ l ≡ zeros (suc i) ++ l
-zeros_next zero l = refl
-zeros_next (suc i) l = ap (λ (r : List ℕ). 0 ∷ r) (zeros_next i l)
-
-pub clear_next : (l : List ℕ) (i : ℕ) → i < length l → set (zeros i ++ drop i l) i 0 ≡ zeros (i + 1) ++ drop (i + 1) l
-clear_next l i h =
-    let s : i + 1 ≡ suc i = omega arith in
-    rw (s, drop-cons l i 0 h) (set_at (zeros i) (get_or l i 0) (drop (suc i) l) 0 i (length-replicate {A = ℕ} i 0) ∙ zeros_next i (drop (suc i) l))
+-- the first LF of a chunk, or its end, lies in it
+pub first_end : (chunk : List ℕ) (e : ℕ) → e ≡ 0 + line_length (drop 0 chunk) → e ≡ length (take e chunk)
+first_end chunk e h = sym (length-take-le e chunk (end_within chunk 0 e (omega arith) h))
 
 -- ---- what is carried
 
-abbrev kept : List ℕ → ℕ → List ℕ → List ℕ
-kept start len part = take most_carried (take len start ++ part)
+-- both parts put over zeros, one after the other
+placed : (size m k : ℕ) (start part copied last : List ℕ) → k ≡ m → copied ≡ start → last ≡ take k part
+    → put_mid (length start) k (copied ++ drop (length start) (zeros size)) last ≡ (start ++ take m part) ++ zeros (size - (length start + m))
+placed size m k start part copied last h e f =
+    let n = length start in
+    let left : size - n - m ≡ size - (n + m) = omega arith in
+    rw (e, f, h, take-append_seam start (drop n (zeros size)), drop-append_seam start (drop n (zeros size)), drop_zeros n size, drop_zeros m (size - n), left)
+    (sym (append_assoc start (take m part) (zeros (size - (n + m)))))
 
--- as many bytes of each as there is room for
-kept_is : (start part : List ℕ) (len n more : ℕ) → length start ≡ most_carried → n ≡ cond (ltb len most_carried) len most_carried
-    → more ≡ cond (ltb (most_carried - n) (length part)) (most_carried - n) (length part) → take n start ++ take more part ≡ kept start len part
-kept_is start part len n more h e f =
-    let l = least_le len most_carried n e in
-    let s : n ≡ cond (ltb len (length start)) len (length start) = rw h e in
-    let k : length (take n start) ≡ n = length-take-le n start (omega arith) in
-    let w : most_carried ≡ length (take n start) + (most_carried - n) = omega arith in
-    ap (λ (l : List ℕ). take n start ++ l) (take_least (most_carried - n) more part f)
-    ∙ sym (take-append-add (take n start) part (most_carried - n))
-    ∙ ap (λ (m : ℕ). take m (take n start ++ part)) (sym w)
-    ∙ ap (λ (l : List ℕ). take most_carried (l ++ part)) (take_least len n start s)
+-- as many bytes of a part as there is room for
+room_for : (size m : ℕ) (start part : List ℕ) → length start ≤ size → m ≡ min (size - length start) (length part) → take size (start ++ part) ≡ start ++ take m part
+room_for size m start part h e =
+    let w : size ≡ length start + (size - length start) = omega arith in
+    ap (λ (j : ℕ). take j (start ++ part)) w ∙ take-append-add start part (size - length start)
+    ∙ ap (λ (l : List ℕ). start ++ l) (sym (rw e (take_min (size - length start) part)))
 
--- bytes with zeros after the first k, as they are carried
-carry_is : (k : ℕ) (bytes : List ℕ) → k ≤ length bytes → drop k bytes ≡ zeros (most_carried - k) → ◌≡◌ {A = Carry} (record { bytes = bytes; len = k }) (carry_of (take k bytes))
+pub joined_is : (m k : ℕ) (start part copied last : List ℕ) → length start ≤ most_carried → m ≡ min (most_carried - length start) (length part) → k ≡ m → copied ≡ start → last ≡ take k part
+    → ◌≡◌ {A = Carry} (record { bytes = put_mid (length start) k (copied ++ drop (length start) (zeros most_carried)) last; len = length start + m }) (carry_of (take most_carried (start ++ part)))
 unfolding carry_of
-carry_is k bytes h e =
-    let all = padded_is most_carried k bytes h e in
-    let few : k ≡ length (take k bytes) = sym (length-take-le k bytes h) in
-    λ i. record { bytes = all i; len = few i }
-
--- both copied over zeros, one after the other
-pub joined_is : (start part : List ℕ) (len n more : ℕ) → length start ≡ most_carried → n ≡ cond (ltb len most_carried) len most_carried
-    → more ≡ cond (ltb (most_carried - n) (length part)) (most_carried - n) (length part)
-    → ◌≡◌ {A = Carry} (record { bytes = paste (paste (zeros most_carried) 0 start n) n part more; len = n + more }) (carry_of (kept start len part))
-joined_is start part len n more h e f =
-    let l = least_le len most_carried n e in
-    let m = least_le (most_carried - n) (length part) more f in
-    let z : length (zeros most_carried) ≡ most_carried = length-replicate {A = ℕ} most_carried 0 in
-    let first = paste (zeros most_carried) 0 start n in
-    let size : length first ≡ most_carried = length-paste (zeros most_carried) 0 start n (omega arith) (omega arith) ∙ z in
-    let none : 0 + n ≡ n = omega arith in
-    let behind : drop n first ≡ zeros (most_carried - n) = ap (λ (m : ℕ). drop m first) (sym none) ∙ drop-paste (zeros most_carried) 0 start n (omega arith) (omega arith) ∙ drop_zeros (0 + n) most_carried ∙ ap (λ (m : ℕ). zeros (most_carried - m)) none in
-    let both = paste first n part more in
-    let size₂ : length both ≡ most_carried = length-paste first n part more (omega arith) m.1 ∙ size in
-    let behind₂ : drop (n + more) both ≡ zeros (most_carried - (n + more)) = drop-paste first n part more (omega arith) m.1 ∙ zeros_later most_carried n (n + more) first (omega arith) behind in
-    carry_is (n + more) both (omega arith) behind₂
-    ∙ ap carry_of (take-paste first n part more (omega arith) m.1
-    ∙ ap (λ (x : List ℕ). x ++ take more part) (ap (λ (m : ℕ). take m first) (sym none) ∙ take-paste (zeros most_carried) 0 start n (omega arith) (omega arith))
-    ∙ kept_is start part len n more h e f)
+joined_is m k start part copied last h e i f g =
+    let all = start ++ take m part in
+    let few : m ≤ length part = omega (arith, e) in
+    let size : length all ≡ length start + m = length-append start (take m part) ∙ ap (λ (j : ℕ). length start + j) (length-take-le m part few) in
+    let bytes = placed most_carried m k start part copied last i f g ∙ ap (λ (j : ℕ). all ++ zeros (most_carried - j)) (sym size) in
+    let same : ◌≡◌ {A = Carry} _ (carry_of all) = λ i. record { bytes = bytes i; len = sym size i } in
+    same ∙ ap carry_of (sym (room_for most_carried m start part h e))
 
 -- what is carried is what was put there
 pub carried_is : (x : Carry) (c : List ℕ) → x ≡ carry_of c → carried_of x ≡ c
 unfolding carry_of
 carried_is x c e = ap carried_of e ∙ take-append_seam c (zeros (most_carried - length c))
-
-pub carry_fits : (x : Carry) (c : List ℕ) → x ≡ carry_of c → x.len ≤ length x.bytes
-unfolding carry_of
-carry_fits x c e = rw e (simp length-append (omega arith))
 
 -- ---- what is put out from a place on
 
@@ -272,7 +246,7 @@ ended_line cols st (b ∷ l) h = refl
 
 -- the end of the input: with a byte carried it is a step over an LF, and with none it is nothing
 abbrev pub leaves_of : StepEffect → LineEffect
-leaves_of s = (s.1, s.3, state s.2.0.registers s.2.1)
+leaves_of s = (unwrap_or s.0 0, s.2, state s.1.0.registers s.1.1)
 
 pub end_step : (cols : List ℕ) (kept : Kept) (cells out : List ℕ) → 0 < length (carried_of kept.carry)
     → leaves_of (step_of cols kept cells (0x0A ∷ []) out) ≡ end_into cols (state kept.registers cells) (carried_of kept.carry) out
@@ -293,13 +267,13 @@ end_none cols st out = by_cases (leb longest_output_line (length out)) (λ t. rw
 module _ (cols : List ℕ) (kept : Kept) (cells chunk out : List ℕ) where
   -- taken: what was printed stands at the start of the output
   step_taken : longest_output_line * length chunk ≤ length out → (n : ℕ) (g : Fed) (out₁ : List ℕ) → (take n out₁, g) ≡ fed cols (kept_of kept cells) chunk → n ≤ length out₁ → drop n out₁ ≡ drop n out
-      → ◌≡◌ {A = StepEffect} (true, n, kept_as g, out₁) (step_of cols kept cells chunk out)
+      → ◌≡◌ {A = StepEffect} (Some n, kept_as g, out₁) (step_of cols kept cells chunk out)
   unfolding step_of
   step_taken h n g out₁ e k d =
       let l : length (take n out₁) ≡ n = length-take-le n out₁ k in
       rw (le-leb (longest_output_line * length chunk) (length out) h, ← e, l, ← d, take-append-drop n out₁)
 
-  pub step_refused : length out < longest_output_line * length chunk → ◌≡◌ {A = StepEffect} (false, 0, (kept, cells), out) (step_of cols kept cells chunk out)
+  pub step_refused : length out < longest_output_line * length chunk → ◌≡◌ {A = StepEffect} (None, (kept, cells), out) (step_of cols kept cells chunk out)
   unfolding step_of
   step_refused h = rw (lt-leb (longest_output_line * length chunk) (length out) h)
 
@@ -315,7 +289,7 @@ module _ (cols : List ℕ) (kept : Kept) (cells chunk out : List ℕ) where
     abbrev pub first : List ℕ
     first = take most_carried (c ++ take e chunk)
 
-    pub step_plain : e ≡ length chunk → ◌≡◌ {A = StepEffect} (true, 0, kept_as (carrying st first), out) (step_of cols kept cells chunk out)
+    pub step_plain : e ≡ length chunk → ◌≡◌ {A = StepEffect} (Some 0, kept_as (carrying st first), out) (step_of cols kept cells chunk out)
     step_plain h =
         let all : take e chunk ≡ chunk = take_all e chunk (omega arith) in
         step_taken room 0 (carrying st first) out
@@ -332,7 +306,7 @@ module _ (cols : List ℕ) (kept : Kept) (cells chunk out : List ℕ) where
           let n : line_length (drop from chunk) ≡ length (drop from chunk) = last ∙ sym (length-drop from chunk) in
           fed_plain cols st₁ (drop from chunk) [] n (omega arith)
 
-      pub step_lines : ◌≡◌ {A = StepEffect} (true, at, kept_as (carrying st₁ rest), out₁) (step_of cols kept cells chunk out)
+      pub step_lines : ◌≡◌ {A = StepEffect} (Some at, kept_as (carrying st₁ rest), out₁) (step_of cols kept cells chunk out)
       step_lines =
           let size = reached.size in
           let within = reached.room in

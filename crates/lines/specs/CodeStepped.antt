@@ -1,11 +1,9 @@
 -- What the code leaves when it takes a piece of input. Only contracts use it.
-use Rattle.std.specs.Prelude.{ℕ, ◌+◌, ◌*◌, ◌-◌, ◌≤◌, ◌≡◌, Bool, true, false, cond, List, [], ◌++◌, leb, length, take, drop}
+use Rattle.std.specs.Prelude.{ℕ, ◌+◌, ◌*◌, ◌-◌, ◌≤◌, ◌≡◌, cond, List, [], ◌++◌, leb, length, take, drop, Option, None, Some}
 use Rattle.calls.specs.State.{State, state}
 use Rattle.print.specs.CodePrinted.{longest_output_line}
 use Rattle.lines.specs.declared.buffers.Carry.{Carry}
 use Rattle.lines.specs.declared.feed.Kept.{Kept}
-use Rattle.lines.specs.declared.feed.Stepped.{Stepped}
-use Rattle.lines.specs.declared.feed.Executed.{Executed}
 use Rattle.parser.specs.CodeParsed.{padded}
 use Rattle.line.specs.CodeLinePrinted.{LineEffect, printed_into}
 use Rattle.lines.specs.Text.{most_carried, Fed, carrying, fed, after, ended}
@@ -46,25 +44,17 @@ unfoldable pub LinesReached : (cols : List ℕ) (st : State) (first chunk : List
 LinesReached cols st first chunk stop out st' from out' at =
     (c : List ℕ) → first ≡ take most_carried (c ++ take stop chunk) → Reached cols (carrying st c) chunk out (carrying st' []) from out' at
 
--- whether a piece of input was taken, how many bytes were printed, what is kept, with the cells, and the output
+-- how many bytes were printed, if a piece of input was taken, what is kept, with the cells, and the output
 abbrev pub StepEffect : Type 0
-StepEffect = Bool × ℕ × (Kept × List ℕ) × List ℕ
+StepEffect = Option ℕ × (Kept × List ℕ) × List ℕ
 
 -- a piece of input is taken if the output has room for the longest line for each of its bytes; else nothing changes
 unfoldable pub step_of : List ℕ → Kept → List ℕ → List ℕ → List ℕ → StepEffect
 step_of cols kept cells chunk out =
     let r = fed cols (kept_of kept cells) chunk in
     cond (leb (longest_output_line * length chunk) (length out))
-    (true, length r.0, kept_as r.1, r.0 ++ drop (length r.0) out)
-    (false, 0, (kept, cells), out)
-
--- what the code returned, with the cells and the output that it was lent
-abbrev pub stepped : Stepped → List ℕ → List ℕ → StepEffect
-stepped x cells out = (x.taken, x.written, (x.kept, cells), out)
-
--- what the code left at the end of the input: by what it returned, and the cells and the output that it was lent
-abbrev pub executed : Executed → List ℕ → List ℕ → LineEffect
-executed x cells out = (x.printed, out, state x.registers cells)
+    (Some (length r.0), kept_as r.1, r.0 ++ drop (length r.0) out)
+    (None, (kept, cells), out)
 
 -- the end of the input: what is carried is executed; nothing is done if the output has no room for the longest line
 unfoldable pub end_into : List ℕ → State → List ℕ → List ℕ → LineEffect

@@ -5,4 +5,4 @@ mod buffers;
 mod feed;
 
 pub use buffers::Carry;
-pub use feed::{Executed, Kept, LENT_BYTES, Stepped, finish, start, step};
+pub use feed::{Kept, LENT_BYTES};

@@ -20,33 +20,25 @@ use Rattle.refusals.proofs.ChainLaws.{cause_fails}
 use Rattle.banks.specs.Setup.{Setup}
 use Rattle.banks.specs.Judge.{not_ready}
 use Rattle.banks.specs.Map.{selected, place_of, in_span, located, cell_of}
-use Rattle.address_map.specs.CodeRoute.{no_cell, bank_in, cell_by, target_of, Leads}
+use Rattle.address_map.specs.CodeRoute.{bank_in, cell_by, target_of, Leads}
 use Rattle.address_map.specs.declared.routes.Route.{Route}
 use Rattle.access.specs.CodeAccess.{lent_cell}
 use Rattle.targets.proofs.CarryLaws.{Does}
 
-is_lent_lem : (cells : List ℕ) (k : ℕ) → lent_cell cells k ≡ some k → is_lent cells k ≡ true
-unfolding lent_cell
-is_lent_lem cells k e = by_cases (is_lent cells k) (λ t. t) (λ t. absurd (some-ne-none k (sym (rw t at e))))
-
-pub flip_does : (st : State) (k a b : ℕ) → lent_cell st.cells k ≡ some k → target_of k ≡ some k → (new : List ℕ)
+pub flip_does : (st : State) (k a b : ℕ) → is_lent st.cells k ≡ true → (new : List ℕ)
     → new ≡ cond (is_lent st.cells k) (put_cell st.cells k (flip_bit (cell_at st.cells k) b)) st.cells
-    → Does st (target_of k) (flip_in a b) (got Flipped []) (state st.registers new)
+    → Does st (some k) (flip_in a b) (got Flipped []) (state st.registers new)
 unfolding access_at on_target on_cell reported
-flip_does st k a b lent cell new e = rw (cell, e, is_lent_lem st.cells k lent)
-
--- a number that stands for a cell stands for itself
-target_itself : (k j : ℕ) → target_of k ≡ some j → target_of k ≡ some k
-unfolding target_of
-target_itself k j e = by_cases (eqb k no_cell) (λ t. absurd (some-ne-none j (sym (rw t at e)))) (λ t. rw t)
+flip_does st k a b lent new e = rw (e, lent)
 
 some_cell : (s : Setup) (a : ℕ) → in_span s a ≡ true → (j : ℕ) × (cell_of s a ≡ some j)
 unfolding cell_of located
 some_cell s a t = ((place_of s (selected s a) a).cell, rw t)
 
 -- a flip that 10 does not refuse has a cell
-pub flip_target : (to : Route) (s : Setup) (a : ℕ) → Leads to s a → not_ready s ≡ none → refuse (eqb (bank_in to) 8) (10 ∷ []) ≡ none → target_of (cell_by to a) ≡ some (cell_by to a)
+pub flip_target : (to : Route) (s : Setup) (a : ℕ) → Leads to s a → not_ready s ≡ none → refuse (eqb (bank_in to) 8) (10 ∷ []) ≡ none
+    → (j : ℕ) × (target_of (cell_by to a) ≡ some j)
 flip_target to s a leads on free =
     let held : in_span s a ≡ true = not-false (in_span s a) (sym (leads.spanned on) ∙ cause_fails (eqb (bank_in to) 8) (10 ∷ []) free) in
     let found = some_cell s a held in
-    target_itself (cell_by to a) found.0 (leads.cell on a refl ∙ found.1)
+    (found.0, leads.cell on a refl ∙ found.1)

@@ -10,20 +10,24 @@ ghost use Rattle.targets.specs.CodeTargets.{carried_out};
 
 use access::{admit, is_allowed};
 use address_map::{cell_at, route};
-use calls::Answer;
-use refusals::{Refusal, Verdict};
+use calls::{Answer, Kinds};
+use refusals::Refusal;
 use registers::Registers;
-use results::{kind_of, one, refuse};
 use stores::scrub;
 
 // A scrub of cell k.
-fn scrub_inside(registers: &mut [u8; 256], cells: &mut [u8], k: usize, address: u32) -> Answer
+fn scrub_inside(
+    registers: &mut [u8; 256],
+    cells: &mut [u8],
+    k: Option<usize>,
+    address: u32,
+) -> Answer
     ensures { leaves result (lent_state registers.new cells.new) [] ≡ effect_of (carried_out (lent_state registers.old cells.old) ((target_of k, scrub_in address) ∷ [])) [] }
 {
     if !is_allowed(cells.len(), k) {
-        return refuse(Refusal::NotLent);
+        return Err(Refusal::NotLent);
     }
-    one(kind_of(scrub(registers, cells, k, address)))
+    Ok(Kinds::of([scrub(registers, cells, k, address)]))
 }
 
 // MEM-8: a scrub.
@@ -31,12 +35,7 @@ pub fn scrub_in_place(registers: &mut [u8; 256], cells: &mut [u8], address: u32)
     ensures { leaves result (lent_state registers.new cells.new) [] ≡ scrub_call columns (lent_state registers.old cells.old) address }
 {
     let to = route(Registers { bytes: *registers }, address);
-    let verdict = admit(to, Verdict::Accepted);
-    match verdict {
-        Verdict::Refused(x) => refuse(x),
-        Verdict::Accepted => {
-            let k = cell_at(to, address);
-            scrub_inside(registers, cells, k, address)
-        }
-    }
+    admit(to, Ok(()))?;
+    let k = cell_at(to, address);
+    scrub_inside(registers, cells, k, address)
 }

@@ -17,6 +17,8 @@ pub struct Called {
     pub answer: Answer,
 }
 
+// Each function copies the record itself: one that takes the call as a closure was tried, and what the closure leaves in the lent cells or buffer was not proved.
+
 // MEM-2: a read of as many bytes as the buffer has.
 pub fn read(registers: Registers, cells: &[u8], address: u32, buffer: &mut [u8]) -> Called
     ensures { leaves result.answer (state result.registers cells.now) buffer.new ≡ read_call columns (state registers cells.now) address buffer.old }
@@ -25,7 +27,7 @@ pub fn read(registers: Registers, cells: &[u8], address: u32, buffer: &mut [u8])
     let answer = memory::read_in_place(&mut after_read, cells, address, buffer);
     Called {
         registers: Registers { bytes: after_read },
-        answer: answer,
+        answer,
     }
 }
 
@@ -37,7 +39,7 @@ pub fn write(registers: Registers, cells: &mut [u8], address: u32, bytes: &[u8])
     let answer = memory::write_in_place(&mut after_write, cells, address, bytes);
     Called {
         registers: Registers { bytes: after_write },
-        answer: answer,
+        answer,
     }
 }
 
@@ -47,10 +49,7 @@ pub fn flip(registers: Registers, cells: &mut [u8], address: u32, bit: u32) -> C
 {
     let bytes = registers.bytes;
     let answer = memory::flip_in_place(&bytes, cells, address, bit);
-    Called {
-        registers: registers,
-        answer: answer,
-    }
+    Called { registers, answer }
 }
 
 // MEM-8: a scrub of the doubleword that holds the address.
@@ -61,7 +60,7 @@ pub fn scrub(registers: Registers, cells: &mut [u8], address: u32) -> Called
     let answer = memory::scrub_in_place(&mut after_scrub, cells, address);
     Called {
         registers: Registers { bytes: after_scrub },
-        answer: answer,
+        answer,
     }
 }
 
@@ -73,7 +72,7 @@ pub fn burst_read(registers: Registers, cells: &[u8], address: u32, buffer: &mut
     let answer = memory::burst_read_in_place(&mut after_reads, cells, address, buffer);
     Called {
         registers: Registers { bytes: after_reads },
-        answer: answer,
+        answer,
     }
 }
 
@@ -85,6 +84,6 @@ pub fn burst_write(registers: Registers, cells: &mut [u8], address: u32, bytes: 
     let answer = memory::burst_write_in_place(&mut after_burst, cells, address, bytes);
     Called {
         registers: Registers { bytes: after_burst },
-        answer: answer,
+        answer,
     }
 }

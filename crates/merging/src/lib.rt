@@ -6,12 +6,6 @@ ghost use Rattle.ecc.specs.Doubleword.{bytes_of_number};
 ghost use Rattle.calls.specs.Calls.{room};
 ghost use Rattle.machine.specs.Cells.{merge};
 
-fn wide(x: u8) -> u64
-    ensures { result ≡ x }
-{
-    x as u64
-}
-
 // MEM-4, MEM-5: the bytes of a write as one number, the first lowest; 0 for more than eight, which no write has (REF-6). Eight need no loop.
 pub fn gathered(bytes: &[u8]) -> u64
     ensures { bytes_of_number result ≡ cond (leb (length bytes.now) 8) (bytes.now ++ replicate (8 - length bytes.now) 0) (replicate 8 0) }
@@ -23,10 +17,8 @@ pub fn gathered(bytes: &[u8]) -> u64
         return 0;
     }
     let mut x: u64 = 0;
-    let mut i: usize = 0;
-    while i < bytes.len() {
-        x = x | wide(bytes[i]) << (8 * i);
-        i += 1;
+    for (i, &byte) in bytes.iter().enumerate() {
+        x |= u64::from(byte) << (8 * i);
     }
     x
 }

@@ -3,28 +3,25 @@
 // programs use. Each name carries the major version of the interface, which the header states, so that a program for another is not linked.
 #![tactic(auto)]
 
-ghost use Rattle.std.specs.Prelude.{◌≡◌, []};
+ghost use Rattle.std.specs.Prelude.{◌≡◌, [], ◌∷◌, Ok};
 ghost use Rattle.refusals.specs.Paper.{◌gives◌};
 ghost use Rattle.registers.specs.Record.{fresh, record_of};
 ghost use Rattle.banks.specs.Setup.{setup_of};
 ghost use Rattle.banks.specs.Judge.{judged, not_ready};
-ghost use Rattle.banks.specs.Map.{mapped, cell_count};
+ghost use Rattle.banks.specs.Map.{paper_mapping, mapped, cell_count};
 ghost use Rattle.way_back.specs.WayBack.{back};
-ghost use Rattle.alike.specs.Alike.{compared};
+ghost use Rattle.alike.specs.Alike.{paper_comparison, compared};
 ghost use Rattle.register_calls.specs.Calls.{read_at, write_at};
 ghost use Rattle.ecc.specs.Columns.{columns};
 ghost use Rattle.calls.specs.State.{lent_state};
 ghost use Rattle.machine.specs.Calls.{read_call, write_call, flip_call, scrub_call, burst_read_call, burst_write_call};
-ghost use Rattle.results.specs.Results.{result_of_verdict, returned};
+ghost use Rattle.results.specs.Results.{result_of_verdict, numbers_after, returned};
 ghost use Rattle.mpc106.specs.Numbers.{single, truth, place_numbers, write_result};
 ghost use Rattle.mpc106.specs.MemoryResults.{memory_result, result_of_call, flip_result};
 
 use alike::Comparison;
-use banks::{CellCount, Column, Mapping, Row};
-use refusals::Refusal;
-use register_calls::RegisterRead;
+use banks::{Column, Place, Row};
 use registers::Registers;
-use way_back::Origin;
 
 // REG-1: makes a record of zeros.
 #[unsafe(no_mangle)]
@@ -44,19 +41,19 @@ pub extern "C" fn mpc106_v4_judge(registers: &[u8; 256]) -> u32
     results::of_verdict(judging::judge(Registers { bytes: *registers }))
 }
 
+fn single<T: Copy>(x: T) -> [T; 1]
+    ensures { result ≡ x ∷ [] }
+{
+    [x]
+}
+
 // MAP-6: how many cells the banks have together.
 #[unsafe(no_mangle)]
 pub extern "C" fn mpc106_v4_cell_count(registers: &[u8; 256], count: &mut [u32; 1]) -> u32
     ensures { (result, count.new) ≡ returned single (not_ready (setup_of (record_of registers.now)) gives cell_count (setup_of (record_of registers.now))) count.old }
 {
     let cells = address_map::cell_count(Registers { bytes: *registers });
-    match cells {
-        CellCount::NotReady => results::of_refusal(Refusal::NotReady),
-        CellCount::Cells(k) => {
-            *count = [k];
-            0
-        }
-    }
+    results::give(cells.map(single), count)
 }
 
 // REG-17: reads a register.
@@ -68,14 +65,8 @@ pub extern "C" fn mpc106_v4_register_read(
 ) -> u32
     ensures { (result, value.new) ≡ returned single (read_at (record_of registers.now) offset) value.old }
 {
-    let given = register_calls::read(Registers { bytes: *registers }, offset);
-    match given {
-        RegisterRead::Refused(x) => results::of_refusal(x),
-        RegisterRead::Value(v) => {
-            *value = [v];
-            0
-        }
-    }
+    let byte = register_calls::read(Registers { bytes: *registers }, offset);
+    results::give(byte.map(single), value)
 }
 
 // REG-18: writes a register.
@@ -86,26 +77,23 @@ pub extern "C" fn mpc106_v4_register_write(registers: &mut [u8; 256], offset: u3
     results::of_verdict(register_calls::write_in_place(registers, offset, value))
 }
 
+// MAP-9: five zeros if no bank is selected.
+fn numbers_of(place: Option<Place>) -> [u32; 5]
+    ensures { numbers_after place_numbers (paper_mapping (Ok place)) [] ≡ result }
+{
+    match place {
+        Some(p) => [1, u32::from(p.bank), p.row.0, p.column.0, p.cell],
+        None => [0; 5],
+    }
+}
+
 // MAP-9: bank, row, column and cell of an address.
 #[unsafe(no_mangle)]
 pub extern "C" fn mpc106_v4_map(registers: &[u8; 256], address: u32, place: &mut [u32; 5]) -> u32
     ensures { (result, place.new) ≡ returned place_numbers (mapped (setup_of (record_of registers.now)) address) place.old }
 {
     let mapping = address_map::map(Registers { bytes: *registers }, address);
-    match mapping {
-        Mapping::Refused(x) => results::of_refusal(x),
-        Mapping::NoBank => {
-            *place = [0u32; 5];
-            0
-        }
-        Mapping::At(p) => {
-            let bank = p.bank as u32;
-            let row = p.row;
-            let column = p.column;
-            *place = [1, bank, row.0, column.0, p.cell];
-            0
-        }
-    }
+    results::give(mapping.map(numbers_of), place)
 }
 
 // The address of a bank, row and column.
@@ -125,12 +113,15 @@ pub extern "C" fn mpc106_v4_way_back(
         Row(row),
         Column(column),
     );
-    match origin {
-        Origin::Refused(x) => results::of_refusal(x),
-        Origin::Address(a) => {
-            *address = [a];
-            0
-        }
+    results::give(origin.map(single), address)
+}
+
+fn truth(comparison: Comparison) -> [u32; 1]
+    ensures { numbers_after truth (paper_comparison (Ok comparison)) [] ≡ result }
+{
+    match comparison {
+        Comparison::Alike => [1],
+        Comparison::Different => [0],
     }
 }
 
@@ -144,17 +135,7 @@ pub extern "C" fn mpc106_v4_alike(
     ensures { (result, alike.new) ≡ returned truth (compared (setup_of (record_of first.now)) (setup_of (record_of second.now))) alike.old }
 {
     let comparison = alike::compare(Registers { bytes: *first }, Registers { bytes: *second });
-    match comparison {
-        Comparison::Refused(x) => results::of_refusal(x),
-        Comparison::Alike => {
-            *alike = [1];
-            0
-        }
-        Comparison::Different => {
-            *alike = [0];
-            0
-        }
-    }
+    results::give(comparison.map(truth), alike)
 }
 
 // MEM-2: a read of as many bytes as the buffer has.
@@ -198,8 +179,7 @@ pub extern "C" fn mpc106_v4_flip(
     ensures { (result, lent_state registers.now cells.new) ≡ flip_result (flip_call columns (lent_state registers.now cells.old) address bit) }
 {
     let given = memory::flip_in_place(registers, cells, address, bit);
-    let verdict = given.verdict;
-    results::of_verdict(verdict)
+    results::of_verdict(given.map(|_| ()))
 }
 
 // MEM-8: a scrub of the doubleword that holds the address.

@@ -1,66 +1,31 @@
 -- The code's answer and what it means: the one is made from the other and back.
-use mathlib.Core.Path.{◌≡◌, refl, sym, ap, ◌∙◌}
+use mathlib.Core.Path.{◌≡◌, refl, sym, ap}
 use mathlib.Core.Bool.{Bool, true, false, cond}
 use mathlib.Core.List.{List, [], ◌∷◌}
-use mathlib.Core.Option.{Option, none, some}
+use Rattle.std.specs.Prelude.{Option, None, Some}
 use Prim.Native.Nat.{ℕ, ◌-◌, ◌≤◌}
-use native.Mathlib.Omega.{arith}
 use lib.Dec.{ltb, eqb}
-use lib.ListN.{length, take, drop, length-append}
+use lib.ListN.{length, take, drop}
 use lib.Seq.{take-append_seam, length-take-le}
-use Rattle.calls.specs.Calls.{read, write, flip, scrub, burst_read, burst_write, Call, memory, read_register, write_register}
+use Rattle.calls.specs.Calls.{read, write, flip, scrub, Call, memory, read_register, write_register}
 use Rattle.hex_digits.specs.Digits.{on_some, hex_field, decimal_field, bytes_field}
-use Rattle.parser.specs.declared.request.Request.{Request}
-use Rattle.parser.specs.declared.request.Request.TheVariants as request
-use Rattle.parser.specs.declared.request.Parsed.{Parsed}
+use Rattle.parser.specs.declared.request.WrittenBytes.{WrittenBytes}
 use Rattle.parser.specs.Format.{fields, one_field, two_fields, by_letter, by_fields, longest_input_line, parse}
-use Rattle.parser.specs.CodeParsed.{asked, bare_of, parsed_as, meant}
+use Rattle.parser.specs.CodeParsed.{written, parsed_as, meant}
 use Rattle.parser.proofs.PaddedLaws.{zeros, padded_is}
 
--- ---- the answer made
-
-bare_as : (q : Request) → bare_of q ≡ parsed_as (asked q [])
-unfolding parsed_as
-bare_as request.Malformed = refl
-bare_as (request.WriteRegister o v) = refl
-bare_as (request.ReadRegister o) = refl
-bare_as (request.Write a) = refl
-bare_as (request.Read a n) = refl
-bare_as (request.Flip a b) = refl
-bare_as (request.Scrub a) = refl
-
-pub bare_asked : (p : Parsed) (q : Request) (o : Option Call) → p ≡ bare_of q → asked q [] ≡ o → p ≡ parsed_as o
-bare_asked p q o e f = e ∙ bare_as q ∙ ap parsed_as f
-
--- a write of the first n of eight bytes, with zeros after them
-pub write_as : (a n : ℕ) (bytes : List ℕ) (o : Option Call) → n ≤ length bytes → drop n bytes ≡ zeros (8 - n) → asked (request.Write a) (take n bytes) ≡ o
-    → ◌≡◌ {A = Parsed} (record { request = request.Write a; bytes = bytes; count = n }) (parsed_as o)
-unfolding parsed_as
-write_as a n bytes o h e f =
+-- the first n of eight bytes, with zeros after them
+pub written_as : (n : ℕ) (bytes : List ℕ) → n ≤ length bytes → drop n bytes ≡ zeros (8 - n) → ◌≡◌ {A = WrittenBytes} (record { bytes = bytes; count = n }) (written (take n bytes))
+written_as n bytes h e =
     let all = padded_is 8 n bytes h e in
     let few : n ≡ length (take n bytes) = sym (length-take-le n bytes h) in
-    (λ i. record { request = request.Write a; bytes = all i; count = few i }) ∙ ap parsed_as f
-
--- ---- what it means
-
-pub parsed_fits : (o : Option Call) → (parsed_as o).count ≤ length (parsed_as o).bytes
-unfolding parsed_as
-parsed_fits none = omega arith
-parsed_fits (some (write_register o v)) = omega arith
-parsed_fits (some (read_register o)) = omega arith
-parsed_fits (some (memory (read a n))) = omega arith
-parsed_fits (some (memory (write a bs))) = simp length-append (omega arith)
-parsed_fits (some (memory (flip a b))) = omega arith
-parsed_fits (some (memory (scrub a))) = omega arith
-parsed_fits (some (memory (burst_read a n))) = omega arith
-parsed_fits (some (memory (burst_write a bs))) = omega arith
+    λ i. record { bytes = all i; count = few i }
 
 -- the answer keeps what was asked for: so it does of each line, since no line asks for a burst
 abbrev Kept : Option Call → Type 0
 Kept o = meant (parsed_as o) ≡ o
 
-kept_none : Kept none
-unfolding parsed_as
+kept_none : Kept None
 kept_none = refl
 
 kept_cond : (t : Bool) {x y : Option Call} → Kept x → Kept y → Kept (cond t x y)
@@ -68,28 +33,28 @@ kept_cond true h k = h
 kept_cond false h k = k
 
 kept_value : {A : Type 0} (o : Option A) (f : A → Option Call) → ((a : A) → Kept (f a)) → Kept (on_some o f)
-kept_value none f h = kept_none
-kept_value (some a) f h = h a
+kept_value None f h = kept_none
+kept_value (Some a) f h = h a
 
-kept_one : {A : Type 0} (f : List ℕ → Option A) (k : A → Call) (fs : List (List ℕ)) → ((a : A) → Kept (some (k a))) → Kept (one_field f k fs)
+kept_one : {A : Type 0} (f : List ℕ → Option A) (k : A → Call) (fs : List (List ℕ)) → ((a : A) → Kept (Some (k a))) → Kept (one_field f k fs)
 unfolding one_field
 kept_one f k [] h = kept_none
-kept_one f k (x ∷ []) h = kept_value (f x) (λ a. some (k a)) h
+kept_one f k (x ∷ []) h = kept_value (f x) (λ a. Some (k a)) h
 kept_one f k (x ∷ y ∷ zs) h = kept_none
 
-kept_two : {A B : Type 0} (f : List ℕ → Option A) (g : List ℕ → Option B) (k : A → B → Call) (fs : List (List ℕ)) → ((a : A) (b : B) → Kept (some (k a b))) → Kept (two_fields f g k fs)
+kept_two : {A B : Type 0} (f : List ℕ → Option A) (g : List ℕ → Option B) (k : A → B → Call) (fs : List (List ℕ)) → ((a : A) (b : B) → Kept (Some (k a b))) → Kept (two_fields f g k fs)
 unfolding two_fields
 kept_two f g k [] h = kept_none
 kept_two f g k (x ∷ []) h = kept_none
-kept_two f g k (x ∷ y ∷ []) h = kept_value (f x) (λ a. on_some (g y) (λ b. some (k a b))) (λ a. kept_value (g y) (λ b. some (k a b)) (h a))
+kept_two f g k (x ∷ y ∷ []) h = kept_value (f x) (λ a. on_some (g y) (λ b. Some (k a b))) (λ a. kept_value (g y) (λ b. Some (k a b)) (h a))
 kept_two f g k (x ∷ y ∷ z ∷ zs) h = kept_none
 
 kept_letter : (l : ℕ) (fs : List (List ℕ)) → Kept (by_letter l fs)
-unfolding by_letter parsed_as
+unfolding by_letter
 kept_letter l fs =
     kept_cond (eqb l 0x63) (kept_two (hex_field 2) (hex_field 2) write_register fs (λ o v. refl))
     (kept_cond (eqb l 0x67) (kept_one (hex_field 2) read_register fs (λ o. refl))
-    (kept_cond (eqb l 0x77) (kept_two (hex_field 8) bytes_field (λ a bs. memory (write a bs)) fs (λ a bs. ap (λ (x : List ℕ). some (memory (write a x))) (take-append_seam bs (zeros (8 - length bs)))))
+    (kept_cond (eqb l 0x77) (kept_two (hex_field 8) bytes_field (λ a bs. memory (write a bs)) fs (λ a bs. ap (λ (x : List ℕ). Some (memory (write a x))) (take-append_seam bs (zeros (8 - length bs)))))
     (kept_cond (eqb l 0x72) (kept_two (hex_field 8) decimal_field (λ a n. memory (read a n)) fs (λ a n. refl))
     (kept_cond (eqb l 0x66) (kept_two (hex_field 8) decimal_field (λ a b. memory (flip a b)) fs (λ a b. refl))
     (kept_cond (eqb l 0x73) (kept_one (hex_field 8) (λ a. memory (scrub a)) fs (λ a. refl)) kept_none)))))

@@ -2,7 +2,7 @@
 use mathlib.Core.Path.{◌≡◌, refl}
 use mathlib.Core.Bool.{Bool, true, false, cond, ◌&&◌, ◌||◌}
 use mathlib.Core.List.{List, [], ◌∷◌}
-use mathlib.Core.Option.{Option, none, some}
+use Rattle.std.specs.Prelude.{Option, None, Some}
 use Prim.Native.Nat.{ℕ, ◌+◌, ◌*◌}
 use lib.Dec.{leb, ltb, eqb}
 use lib.ListN.{length}
@@ -17,13 +17,13 @@ parted (b ∷ bs) = eqb b 0x2C || parted bs
 
 -- a way to read a field that accepts no comma
 abbrev pub Plain : {A : Type 0} → (List ℕ → Option A) → Type 0
-Plain f = (x : List ℕ) → parted x ≡ true → f x ≡ none
+Plain f = (x : List ℕ) → parted x ≡ true → f x ≡ None
 
-pub on_some_none : {A B : Type 0} (x : Option A) → on_some {B = B} x (λ a. none) ≡ none
-on_some_none none = refl
-on_some_none (some a) = refl
+pub on_some_none : {A B : Type 0} (x : Option A) → on_some {B = B} x (λ a. None) ≡ None
+on_some_none None = refl
+on_some_none (Some a) = refl
 
-pub comma_digit : (b : ℕ) → eqb b 0x2C ≡ true → hex_digit b ≡ none
+pub comma_digit : (b : ℕ) → eqb b 0x2C ≡ true → hex_digit b ≡ None
 unfolding hex_digit decimal_digit
 comma_digit b e = rw (eqb-true b 0x2C e)
 
@@ -33,19 +33,19 @@ hex_from_plain v [] e = let z : ◌≡◌ {A = Bool} false true = e in cc
 hex_from_plain v (b ∷ bs) e =
     by_cases (eqb b 0x2C) (λ t. rw (comma_digit b t)) (λ t. let u : parted bs ≡ true = rw t at e in go (hex_digit b) (λ d. hex_from_plain (16 * v + d) bs u))
   where
-    go : (x : Option ℕ) → ((d : ℕ) → hex_from (16 * v + d) bs ≡ none) → on_some x (λ d. hex_from (16 * v + d) bs) ≡ none
-    go none f = refl
-    go (some d) f = f d
+    go : (x : Option ℕ) → ((d : ℕ) → hex_from (16 * v + d) bs ≡ None) → on_some x (λ d. hex_from (16 * v + d) bs) ≡ None
+    go None f = refl
+    go (Some d) f = f d
 
 pub hex_field_plain : (n : ℕ) → Plain (hex_field n)
 unfolding hex_field
 hex_field_plain n x e = rw (hex_from_plain 0 x e) (go (eqb (length x) n))
   where
-    go : (t : Bool) → cond {A = Option ℕ} t none none ≡ none
+    go : (t : Bool) → cond {A = Option ℕ} t None None ≡ None
     go true = refl
     go false = refl
 
-comma_decimal : (b : ℕ) → eqb b 0x2C ≡ true → decimal_digit b ≡ none
+comma_decimal : (b : ℕ) → eqb b 0x2C ≡ true → decimal_digit b ≡ None
 unfolding decimal_digit
 comma_decimal b e = rw (eqb-true b 0x2C e)
 
@@ -75,6 +75,6 @@ pub bytes_field_plain : Plain bytes_field
 unfolding bytes_field
 bytes_field_plain x e = rw (hex_bytes_plain x e) (go (ltb 0 (length x) && leb (length x) 16))
   where
-    go : (t : Bool) → cond {A = Option (List ℕ)} t none none ≡ none
+    go : (t : Bool) → cond {A = Option (List ℕ)} t None None ≡ None
     go true = refl
     go false = refl

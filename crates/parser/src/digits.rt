@@ -1,50 +1,68 @@
-// Reads digits. A byte that is no digit gets a value out of range.
-ghost use Rattle.std.specs.Prelude.{◌≡◌, ◌≤◌, ◌^◌, [], ◌∷◌, length, take, drop};
-ghost use Rattle.hex_digits.specs.Digits.{decimal_digit, hex_digit, hex_from};
-ghost use Rattle.hex_digits.specs.CodeDigits.{below};
+// Reads digits. A byte that is no digit has no value.
+ghost use Rattle.std.specs.Prelude.{◌≡◌, ◌≤◌, ◌<◌, [], ◌∷◌, length, take, IfSome};
+ghost use Rattle.hex_digits.specs.Digits.{decimal_digit, decimal_field, hex_digit, hex_from};
 
-// A decimal digit's value, or 100.
-pub(crate) fn decimal_digit(b: u8) -> u8
-    ensures { (decimal_digit b ≡ below 10 result) × (decimal_digit b ≡ below 100 result) }
+// A decimal digit's value.
+#[tactic(auto, unfolding(hex_digits::specs::Digits::decimal_digit))]
+fn decimal_digit(b: u8) -> Option<u8>
+    ensures value { result ≡ decimal_digit b }
+    ensures bound { IfSome result (λ d. d < 10) }
 {
-    if (b'0' <= b) & (b <= b'9') {
-        b - b'0'
-    } else {
-        100
+    match b {
+        b'0'..=b'9' => Some(b - b'0'),
+        _ => None,
     }
 }
 
-// A hexadecimal digit's value, or 16.
-pub(crate) fn hex_digit(b: u8) -> u8
-    ensures { hex_digit b ≡ below 16 result }
+// The decimal number that is a whole field.
+#[tactic(auto, unfolding(hex_digits::specs::Digits::decimal_field))]
+pub(crate) fn decimal(digits: &[u8]) -> Option<u8>
+    ensures { result ≡ decimal_field digits.now }
 {
-    if (b'a' <= b) & (b <= b'f') {
-        return b - b'a' + 10;
-    }
-    if (b'0' <= b) & (b <= b'9') {
-        b - b'0'
-    } else {
-        16
-    }
-}
-
-// The value of two hexadecimal digits, or 256.
-pub(crate) fn hex_pair(a: u8, b: u8) -> u32
-    ensures { hex_from 0 (a ∷ b ∷ []) ≡ below 256 result }
-{
-    let high = hex_digit(a) as u32;
-    let low = hex_digit(b) as u32;
-    if (high < 16) & (low < 16) {
-        16 * high + low
-    } else {
-        256
+    match digits {
+        [one] => decimal_digit(*one),
+        [ten, one] => {
+            let tens = decimal_digit(*ten)?;
+            let ones = decimal_digit(*one)?;
+            if tens == 0 {
+                None
+            } else {
+                Some(10 * tens + ones)
+            }
+        }
+        _ => None,
     }
 }
 
-// The value of the eight hexadecimal digits from index 2 of a line on, or 2^32.
-pub(crate) fn hex_address(line: &[u8]) -> u64
-    requires { 10 ≤ length line.now }
-    ensures { hex_from 0 (take 8 (drop 2 line.now)) ≡ below (2 ^ 32) result }
+// A hexadecimal digit's value. No `match` on two ranges, of which a processor would have to guess the next: with it a `w` line took 1.4 times as long.
+#[tactic(auto, unfolding(hex_digits::specs::Digits::hex_digit, hex_digits::specs::Digits::decimal_digit))]
+fn hex_digit(b: u8) -> Option<u8>
+    ensures value { result ≡ hex_digit b }
+    ensures bound { IfSome result (λ d. d < 16) }
 {
-    hex_digits::value(eight_bytes::number_at(line, 2))
+    let (value, most) = if b < b'a' {
+        (b.wrapping_sub(b'0'), 9)
+    } else {
+        (b - b'a' + 10, 15)
+    };
+    if value <= most { Some(value) } else { None }
+}
+
+// The value of two hexadecimal digits.
+#[tactic(auto, unfolding(hex_digits::specs::Digits::hex_from))]
+pub(crate) fn hex_pair(a: u8, b: u8) -> Option<u8>
+    ensures { result ≡ hex_from 0 (a ∷ b ∷ []) }
+{
+    let high = hex_digit(a)?;
+    let low = hex_digit(b)?;
+    Some(16 * high + low)
+}
+
+// The value of the first eight hexadecimal digits.
+#[tactic(auto, using(eight_bytes::proofs::ByteLaws::eight_some))]
+pub(crate) fn hex_address(digits: &[u8]) -> Option<u32>
+    requires { 8 ≤ length digits.now }
+    ensures { result ≡ hex_from 0 (take 8 digits.now) }
+{
+    hex_digits::value(eight_bytes::number_at(digits, 0))
 }

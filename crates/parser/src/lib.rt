@@ -1,7 +1,7 @@
 // The line format of `busline`: what a line asks for (LINE-2 to LINE-8).
 #![tactic(auto)]
 
-ghost use Rattle.std.specs.Prelude.{◌≡◌, ◌≤◌, length, drop, get_or};
+ghost use Rattle.std.specs.Prelude.{◌≡◌};
 ghost use Rattle.parser.specs.Format.{fields, by_letter, parse};
 ghost use Rattle.parser.specs.CodeParsed.{parsed_as};
 
@@ -11,54 +11,39 @@ mod memory_lines;
 mod register_lines;
 mod request;
 
-use memory_lines::{parse_flip, parse_read, parse_scrub, parse_write};
+use memory_lines::{address_and_number, parse_scrub, parse_write};
 use register_lines::{parse_register_read, parse_register_write};
-pub use request::{Parsed, Request};
-use request::{bare, malformed};
+pub use request::{Request, WrittenBytes};
 
-// Parses by the letter a line whose second byte is a comma.
-fn by_letter(line: &[u8]) -> Parsed
-    requires { 2 ≤ length line.now }
-    ensures { result ≡ parsed_as (by_letter (get_or line.now 0 0) (fields (drop 2 line.now))) }
+// Parses by its letter what follows the letter's comma.
+#[tactic(auto, unfolding(crate::specs::Format::by_letter))]
+fn by_letter(letter: u8, rest: &[u8]) -> Option<Request>
+    ensures { result ≡ parsed_as (by_letter letter (fields rest.now)) }
 {
-    let letter = line[0];
-    if letter == b'c' {
-        return bare(parse_register_write(line));
+    match letter {
+        b'c' => parse_register_write(rest),
+        b'g' => parse_register_read(rest),
+        b'w' => parse_write(rest),
+        b'r' => address_and_number(rest).map(|(address, count)| Request::Read(address, count)),
+        b'f' => address_and_number(rest).map(|(address, bit)| Request::Flip(address, bit)),
+        b's' => parse_scrub(rest),
+        _ => None,
     }
-    if letter == b'g' {
-        return bare(parse_register_read(line));
-    }
-    if letter == b'w' {
-        return parse_write(line);
-    }
-    if letter == b'r' {
-        return bare(parse_read(line));
-    }
-    if letter == b'f' {
-        return bare(parse_flip(line));
-    }
-    if letter == b's' {
-        return bare(parse_scrub(line));
-    }
-    malformed()
 }
 
 // The most bytes that a line has, without its LF.
 pub const LONGEST_INPUT_LINE: usize = 40;
 
-// What a line, given without its LF, asks for (LINE-1, LINE-2, LINE-11).
-pub fn parse(line: &[u8]) -> Parsed
+// What a line, given without its LF, asks for (LINE-1, LINE-2); nothing if it is malformed (LINE-11).
+#[tactic(auto, using(crate::proofs::FormatLaws::parse_short, crate::proofs::FormatLaws::parse_long, crate::proofs::FormatLaws::parse_unparted))]
+pub fn parse(line: &[u8]) -> Option<Request>
     ensures { result ≡ parsed_as (parse line.now) }
 {
-    if line.len() < 2 {
-        return malformed();
-    }
     if LONGEST_INPUT_LINE < line.len() {
-        return malformed();
+        return None;
     }
-    let comma = line[1];
-    if comma != b',' {
-        return malformed();
+    match line {
+        [letter, b',', rest @ ..] => by_letter(*letter, rest),
+        _ => None,
     }
-    by_letter(line)
 }

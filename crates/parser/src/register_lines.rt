@@ -1,49 +1,34 @@
-// Lines for register calls. Their fields are at fixed indexes.
-ghost use Rattle.std.specs.Prelude.{◌≡◌, ◌≤◌, [], length, drop};
+// Lines for register calls, from the byte after the letter and its comma on.
+ghost use Rattle.std.specs.Prelude.{◌≡◌};
 ghost use Rattle.calls.specs.Calls.{read_register, write_register};
 ghost use Rattle.hex_digits.specs.Digits.{hex_field};
 ghost use Rattle.parser.specs.Format.{fields, one_field, two_fields};
-ghost use Rattle.parser.specs.CodeParsed.{asked};
+ghost use Rattle.parser.specs.CodeParsed.{parsed_as};
 
 use crate::digits::hex_pair;
 use crate::request::Request;
 
 // `c,offset,value`
-pub(crate) fn parse_register_write(line: &[u8]) -> Request
-    requires { 2 ≤ length line.now }
-    ensures { asked result [] ≡ two_fields (hex_field 2) (hex_field 2) write_register (fields (drop 2 line.now)) }
+#[tactic(auto, using(crate::proofs::DigitLaws::field_lacks, crate::proofs::PlainLaws::hex_field_plain, crate::proofs::FieldLaws::two_lacking, crate::proofs::FieldLaws::two_unparted))]
+pub(crate) fn parse_register_write(rest: &[u8]) -> Option<Request>
+    ensures { result ≡ parsed_as (two_fields (hex_field 2) (hex_field 2) write_register (fields rest.now)) }
 {
-    let n = line.len();
-    if n != 7 {
-        return Request::Malformed;
-    }
-    let comma = line[4];
-    if comma != b',' {
-        return Request::Malformed;
-    }
-    let offset = hex_pair(line[2], line[3]);
-    let value = hex_pair(line[5], line[6]);
-    if 255 < offset {
-        return Request::Malformed;
-    }
-    if 255 < value {
-        return Request::Malformed;
-    }
-    Request::WriteRegister(offset as u8, value as u8)
+    let [a, b, b',', c, d] = rest else {
+        return None;
+    };
+    let offset = hex_pair(*a, *b)?;
+    let value = hex_pair(*c, *d)?;
+    Some(Request::WriteRegister(offset, value))
 }
 
 // `g,offset`
-pub(crate) fn parse_register_read(line: &[u8]) -> Request
-    requires { 2 ≤ length line.now }
-    ensures { asked result [] ≡ one_field (hex_field 2) read_register (fields (drop 2 line.now)) }
+#[tactic(auto, using(crate::proofs::DigitLaws::field_lacks, crate::proofs::FormatLaws::digits_alone))]
+pub(crate) fn parse_register_read(rest: &[u8]) -> Option<Request>
+    ensures { result ≡ parsed_as (one_field (hex_field 2) read_register (fields rest.now)) }
 {
-    let n = line.len();
-    if n != 4 {
-        return Request::Malformed;
-    }
-    let offset = hex_pair(line[2], line[3]);
-    if 255 < offset {
-        return Request::Malformed;
-    }
-    Request::ReadRegister(offset as u8)
+    let [a, b] = rest else {
+        return None;
+    };
+    let offset = hex_pair(*a, *b)?;
+    Some(Request::ReadRegister(offset))
 }

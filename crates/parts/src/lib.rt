@@ -16,7 +16,7 @@ ghost use Rattle.access.specs.CodeAccess.{is_allowed};
 use access::is_allowed;
 use address_map::{Route, cell_at};
 use banks::MEGABYTE_DOUBLEWORDS;
-use refusals::{Refusal, Verdict};
+use refusals::Refusal;
 use registers::Registers;
 
 // How many doublewords there are.
@@ -48,23 +48,24 @@ pub fn beat_address(address: u32, i: u32) -> u32
 }
 
 // The cell of beat i of a burst, whose line lies in one megabyte.
-pub fn beat_cell(to: Route, address: u32, i: u32) -> usize
+#[inline(always)]
+pub fn beat_cell(to: Route, address: u32, i: u32) -> Option<usize>
     ensures { result ≡ cell_by to (beat_address address i) }
 {
     cell_at(to, beat_address(address, i))
 }
 
 // REF-19, REF-20: the refusal, if any, of a burst of `count` bytes at an address.
-pub fn judge_burst(address: u32, count: usize) -> Verdict
+pub fn judge_burst(address: u32, count: usize) -> Result<(), Refusal>
     ensures { paper_verdict result ≡ by_burst address count }
 {
     if address % 8 != 0 {
-        return Verdict::Refused(Refusal::Misaligned);
+        return Err(Refusal::Misaligned);
     }
     if count != 32 {
-        return Verdict::Refused(Refusal::NotCacheLine);
+        return Err(Refusal::NotCacheLine);
     }
-    Verdict::Accepted
+    Ok(())
 }
 
 // REF-9 of the four beats of a burst.

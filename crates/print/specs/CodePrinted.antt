@@ -1,12 +1,15 @@
 -- What the code puts out: a text at the start of the lent output.
-use Rattle.std.specs.Prelude.{ℕ, cond, List, ◌++◌, leb, length, drop}
-use Rattle.calls.specs.declared.Answer.{Answer}
-use Rattle.calls.specs.Answers.{paper_answer}
+use Rattle.std.specs.Prelude.{ℕ, cond, List, ◌++◌, leb, length, take, drop}
+use Rattle.calls.specs.Answers.{Answer, paper_answer}
 use Rattle.print.specs.Output.{outcome_text, kinds_text, kinds_and_bytes_text}
 
 -- the most bytes that an output line can have, with its LF: an answer has up to four parts of five bytes, and a read up to eight bytes
 abbrev pub longest_output_line : ℕ
 longest_output_line = 41
+
+-- as much of a text as the longest line has bytes
+unfoldable pub cut : List ℕ → List ℕ
+cut text = take longest_output_line text
 
 -- the length of a text, and the output with the text at its start; the bytes after the text stay as they were
 abbrev pub at_start : List ℕ → List ℕ → ℕ × List ℕ

@@ -19,17 +19,16 @@ ghost use Rattle.targets.specs.CodeTargets.{carried_out};
 use access::{admit, crosses_end, fetch, is_allowed, judge_count};
 use address_map::{Route, cell_at, route};
 use byte_lanes::{copy_across, copy_out};
-use calls::Answer;
+use calls::{Answer, Kinds};
 use parts::{next_doubleword, route_after};
-use refusals::{Refusal, Verdict};
+use refusals::Refusal;
 use registers::Registers;
-use results::{kind_of, one, refuse, two};
 
 // A read inside one doubleword, whose cell is k.
 fn read_inside(
     registers: &mut [u8; 256],
     cells: &[u8],
-    k: usize,
+    k: Option<usize>,
     address: u32,
     buffer: &mut [u8],
 ) -> Answer
@@ -37,20 +36,19 @@ fn read_inside(
     ensures { leaves result (lent_state registers.new cells.now) buffer.new ≡ effect_of (carried_out (lent_state registers.old cells.now) ((target_of k, read_in address (length buffer.old)) ∷ [])) buffer.old }
 {
     if !is_allowed(cells.len(), k) {
-        return refuse(Refusal::NotLent);
+        return Err(Refusal::NotLent);
     }
-    let a = fetch(registers, cells, k, address);
-    let kind = kind_of(a.outcome);
-    copy_out(a.doubleword, address, buffer);
-    one(kind)
+    let found = fetch(registers, cells, k, address);
+    copy_out(found.doubleword, address, buffer);
+    Ok(Kinds::of([found.kind]))
 }
 
 // A read over the end of a doubleword, whose two cells are k and l.
 fn read_across(
     registers: &mut [u8; 256],
     cells: &[u8],
-    k: usize,
-    l: usize,
+    k: Option<usize>,
+    l: Option<usize>,
     address: u32,
     buffer: &mut [u8],
 ) -> Answer
@@ -58,14 +56,12 @@ fn read_across(
     ensures { leaves result (lent_state registers.new cells.now) buffer.new ≡ effect_of (carried_out (lent_state registers.old cells.now) ((target_of k, read_in address (room address)) ∷ (target_of l, read_in (next_doubleword address) (length buffer.old - room address)) ∷ [])) buffer.old }
 {
     if !(is_allowed(cells.len(), k) & is_allowed(cells.len(), l)) {
-        return refuse(Refusal::NotLent);
+        return Err(Refusal::NotLent);
     }
-    let a = fetch(registers, cells, k, address);
-    let low = kind_of(a.outcome);
-    let b = fetch(registers, cells, l, next_doubleword(address));
-    let high = kind_of(b.outcome);
-    copy_across(a.doubleword, b.doubleword, address, buffer);
-    two(low, high)
+    let low = fetch(registers, cells, k, address);
+    let high = fetch(registers, cells, l, next_doubleword(address));
+    copy_across(low.doubleword, high.doubleword, address, buffer);
+    Ok(Kinds::of([low.kind, high.kind]))
 }
 
 // A read over the end of a doubleword, if `to` is the route of its address.
@@ -79,16 +75,11 @@ fn read_split(
     requires { (crosses address (length buffer.old) ≡ true) × (paper_route to ≡ (not_ready (setup_of (record_of registers.old)) gives selection (setup_of (record_of registers.old)) (address / 2 ^ 20))) }
     ensures { leaves result (lent_state registers.new cells.now) buffer.new ≡ read_call columns (lent_state registers.old cells.now) address buffer.old }
 {
-    let verdict = admit(to, judge_count(address, buffer.len()));
-    match verdict {
-        Verdict::Refused(x) => refuse(x),
-        Verdict::Accepted => {
-            let k = cell_at(to, address);
-            let after = route_after(registers, to, address);
-            let l = cell_at(after, next_doubleword(address));
-            read_across(registers, cells, k, l, address, buffer)
-        }
-    }
+    admit(to, judge_count(address, buffer.len()))?;
+    let k = cell_at(to, address);
+    let after = route_after(registers, to, address);
+    let l = cell_at(after, next_doubleword(address));
+    read_across(registers, cells, k, l, address, buffer)
 }
 
 // MEM-3, MEM-17: a read of as many bytes as the buffer has.
@@ -104,12 +95,7 @@ pub fn read_in_place(
     if crosses_end(address, buffer.len()) {
         return read_split(registers, cells, to, address, buffer);
     }
-    let verdict = admit(to, judge_count(address, buffer.len()));
-    match verdict {
-        Verdict::Refused(x) => refuse(x),
-        Verdict::Accepted => {
-            let k = cell_at(to, address);
-            read_inside(registers, cells, k, address, buffer)
-        }
-    }
+    admit(to, judge_count(address, buffer.len()))?;
+    let k = cell_at(to, address);
+    read_inside(registers, cells, k, address, buffer)
 }

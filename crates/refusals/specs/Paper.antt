@@ -1,12 +1,10 @@
 -- What each refusal returns, and chains of causes. REF-n is refusal n.
-use Rattle.std.specs.Prelude.{ℕ, Bool, true, false, List, [], ◌∷◌}
+use Rattle.std.specs.Prelude.{ℕ, Bool, true, false, List, [], ◌∷◌, Result, Ok, Err, ⊤}
 use Rattle.std.proofs.Math.Option.{Option, none, some}
 use Rattle.refusals.specs.declared.Refusal.{Refusal}
 use Rattle.refusals.specs.declared.Refusal.TheVariants.{UnlistedOffset, ReadOnly, ValueOutOfRange, LockedWhileOn, NotReady, CountOutOfRange}
 use Rattle.refusals.specs.declared.Refusal.TheVariants.{PassesLastAddress, BitOutOfRange, NotLent, FlipWithoutBank, NoBankEnabled, StartAboveEnd}
 use Rattle.refusals.specs.declared.Refusal.TheVariants.{TooLong, Overlap, BankOff, RowOrColumnTooLarge, NoAddress, MalformedLine, Misaligned, NotCacheLine}
-use Rattle.refusals.specs.declared.Verdict.{Verdict}
-use Rattle.refusals.specs.declared.Verdict.TheVariants.{Accepted, Refused}
 
 -- REF-1 to REF-20, FORM-7: the number of a refusal, and for 12 to 14 the bank
 abbrev pub paper : Refusal → List ℕ
@@ -47,14 +45,19 @@ abbrev pub ◌else◌ : Declined → Declined → Declined
 
 infixr 20 ◌else◌
 -- FORM-7: the verdict of a call that returns nothing else
-abbrev pub paper_verdict : Verdict → Declined
-paper_verdict Accepted = none
-paper_verdict (Refused x) = some (paper x)
+abbrev pub paper_verdict : Result ⊤ Refusal → Declined
+paper_verdict (Ok x) = none
+paper_verdict (Err x) = some (paper x)
 
 -- what a call returns: a refusal, or what an accepted call gives
 pub data Outcome (A : Type 0) : Type 0 where
   refused : List ℕ → Outcome A
   given : A → Outcome A
+
+-- FORM-7: what a call returns, with the refusal as the rules number it
+abbrev pub paper_outcome : {A : Type 0} → Result A Refusal → Outcome A
+paper_outcome (Ok x) = given x
+paper_outcome (Err x) = refused (paper x)
 
 -- REF-101: a chain of causes, and what the call gives if none of them applies
 abbrev pub ◌gives◌ : {A : Type 0} → Declined → A → Outcome A

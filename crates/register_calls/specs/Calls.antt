@@ -2,13 +2,11 @@
 use Rattle.std.specs.Prelude.{ℕ, ◌-◌, Bool, not, cond, ◌&&◌, ◌||◌, [], ◌∷◌, ltb, leb, eqb}
 use Rattle.std.proofs.Math.Option.{none, some}
 use Rattle.std.specs.Int.Bits.{bit_and}
-use Rattle.refusals.specs.Paper.{paper, paper_verdict, Declined, refuse, ◌else◌, Outcome, refused, given, ◌gives◌}
+use Rattle.refusals.specs.Paper.{paper_verdict, Declined, refuse, ◌else◌, Outcome, ◌gives◌}
 use Rattle.registers.specs.Record.{at, stored}
 use Rattle.registers.specs.declared.Registers.{Registers}
 use Rattle.banks.specs.Setup.{setup_of}
 use Rattle.banks.specs.Judge.{judged}
-use Rattle.register_calls.specs.declared.RegisterRead.{RegisterRead}
-use Rattle.register_calls.specs.declared.RegisterRead.TheVariants.{Refused, Value}
 use Rattle.register_calls.specs.declared.Written.{Written}
 
 -- whether o is from low to high, both included
@@ -73,8 +71,3 @@ write_at r o v = (declined r o v, written r o v)
 -- FORM-7: the verdict as the rules number it, and the record
 abbrev pub paper_written : Written → Declined × Registers
 paper_written w = (paper_verdict w.verdict, w.registers)
-
--- FORM-7: the refusal as the rules number it, or the byte
-abbrev pub paper_register_read : RegisterRead → Outcome ℕ
-paper_register_read (Refused x) = refused (paper x)
-paper_register_read (Value v) = given v

@@ -20,12 +20,12 @@ result_of_verdict none = 0
 result_of_verdict (some x) = refusal_code x
 
 -- the lent numbers after a call: an accepted call puts what it gives there, and a refused one leaves them as they were (DEM-1)
-abbrev pub numbers_after : {A : Type 0} → (A → List ℕ) → Outcome A → List ℕ → List ℕ
+abbrev pub numbers_after : {A B : Type 0} → (A → B) → Outcome A → B → B
 numbers_after numbers (refused x) before = before
 numbers_after numbers (given a) before = numbers a
 
 -- what a call returns, and the lent numbers after it
-abbrev pub returned : {A : Type 0} → (A → List ℕ) → Outcome A → List ℕ → ℕ × List ℕ
+abbrev pub returned : {A B : Type 0} → (A → B) → Outcome A → B → ℕ × B
 returned numbers o before = (result_of o, numbers_after numbers o before)
 
 -- the number of a kind. That of a flip is never given out

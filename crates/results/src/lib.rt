@@ -1,48 +1,45 @@
-// The answer of a memory call, made from the outcomes of its accesses; and what a call returns to a C program and gives it, as numbers.
+// What a call returns to a C program and gives it, as numbers.
 #![tactic(auto)]
 
-ghost use Rattle.std.specs.Prelude.{◌≡◌, ◌<◌, get_or, take};
-ghost use Rattle.refusals.specs.Paper.{paper, paper_verdict};
+ghost use Rattle.std.specs.Prelude.{◌≡◌, ◌≤◌, length};
+ghost use Rattle.refusals.specs.Paper.{paper, paper_verdict, paper_outcome};
 ghost use Rattle.calls.specs.Answers.{kinds_in, paper_answer};
 ghost use Rattle.results.specs.Results.{refusal_code, result_of_verdict, returned, kind_code, bit_of, part_code, part_at, answer_numbers};
 
-use calls::{Answer, Kind, Part};
-use refusals::{Refusal, Verdict};
+use calls::{Answer, Kind, Kinds};
+use refusals::Refusal;
 
-mod answers;
-
-pub use answers::{four, kind_of, one, refuse, two};
-
-// The bank that a refusal returns, or 0 if it returns none.
-fn bank(x: Refusal) -> u8
-    ensures { result ≡ get_or (paper x) 1 0 }
-{
-    match x {
-        Refusal::StartAboveEnd(n) => n,
-        Refusal::TooLong(n) => n,
-        Refusal::Overlap(n) => n,
-        _ => 0,
-    }
-}
-
-// A refusal as a C program gets it.
+// A refusal as a C program gets it: its number, and in the next byte the bank that it names, or 0 if it names none.
 pub fn of_refusal(x: Refusal) -> u32
     ensures { result ≡ refusal_code (paper x) }
 {
-    refusals::number(x) as u32 + 256 * (bank(x) as u32)
+    u32::from(x.number()) + 256 * u32::from(x.bank().unwrap_or(0))
 }
 
 // A verdict as a C program gets it: 0 if there is no refusal.
-pub fn of_verdict(v: Verdict) -> u32
+pub fn of_verdict(v: Result<(), Refusal>) -> u32
     ensures { result ≡ result_of_verdict (paper_verdict v) }
 {
     match v {
-        Verdict::Accepted => 0,
-        Verdict::Refused(x) => of_refusal(x),
+        Ok(()) => 0,
+        Err(x) => of_refusal(x),
     }
 }
 
-fn number(k: Kind) -> u8
+// What a call returns that gives numbers: those of an accepted call go to the lent ones.
+pub fn give<T: Copy, const N: usize>(given: Result<[T; N], Refusal>, lent: &mut [T; N]) -> u32
+    ensures { (result, lent.new) ≡ returned (λ x. x) (paper_outcome given) lent.old }
+{
+    match given {
+        Ok(numbers) => {
+            *lent = numbers;
+            0
+        }
+        Err(refusal) => of_refusal(refusal),
+    }
+}
+
+fn number(k: Kind) -> u32
     ensures { result ≡ kind_code k }
 {
     match k {
@@ -60,62 +57,38 @@ fn flip_bit(k: Kind) -> u8
     ensures { result ≡ bit_of k }
 {
     match k {
-        Kind::Clean => 0,
         Kind::Corrected(b) => b,
-        Kind::Uncorrectable => 0,
-        Kind::Stored => 0,
-        Kind::NoBank => 0,
-        Kind::Flipped => 0,
+        _ => 0,
     }
 }
 
-// Most parts are clean: where the compiler knows it, it stores their number without a look at the bit.
-fn part_code(k: Kind) -> u32
-    ensures { result ≡ part_code k }
+// The number of an access's part of the answer, or 0 if there is no such access.
+#[tactic(auto, using(crate::proofs::PartLaws::part_is, crate::proofs::PartLaws::part_past))]
+fn part_at(kinds: &[Kind], i: usize) -> u32
+    ensures { result ≡ part_at kinds.now i }
 {
-    match k {
-        Kind::Clean => 1,
-        _ => number(k) as u32 + 256 * (flip_bit(k) as u32),
+    match kinds.get(i) {
+        Some(k) => number(*k) + 256 * u32::from(flip_bit(*k)),
+        None => 0,
     }
 }
 
-fn part_at(parts: [Part; 4], i: usize) -> u32
-    requires { i < 4 }
-    ensures { result ≡ part_at (kinds_in parts) i }
+fn numbers(of: Kinds) -> [u32; 5]
+    ensures { result ≡ answer_numbers (kinds_in of) }
 {
-    let x = parts[i];
-    let k = x.kind;
-    part_code(k)
-}
-
-// Most answers have one part: where the compiler knows that, it stores the number of it without a look at the others.
-fn put_parts(count: usize, parts: [Part; 4], answer: &mut [u32; 5])
-    ensures { answer.new ≡ answer_numbers (kinds_in (take count parts)) }
-{
-    if count == 1 {
-        *answer = [1, part_at(parts, 0), 0, 0, 0];
-        return;
-    }
-    *answer = [0u32; 5];
-    let mut i: usize = 0;
-    while (i < 4) & (i < count) {
-        answer[i + 1] = part_at(parts, i);
-        i += 1;
-    }
-    answer[0] = i as u32;
+    let kinds = of.as_slice();
+    [
+        kinds.len() as u32,
+        part_at(kinds, 0),
+        part_at(kinds, 1),
+        part_at(kinds, 2),
+        part_at(kinds, 3),
+    ]
 }
 
 // What a read, write, scrub or burst returns; the parts of an accepted call go to the lent numbers.
 pub fn give_answer(x: Answer, answer: &mut [u32; 5]) -> u32
     ensures { (result, answer.new) ≡ returned answer_numbers (paper_answer x) answer.old }
 {
-    let verdict = x.verdict;
-    match verdict {
-        Verdict::Accepted => {
-            let parts = x.parts;
-            put_parts(x.count, parts, answer);
-            0
-        }
-        Verdict::Refused(r) => of_refusal(r),
-    }
+    give(x.map(numbers), answer)
 }

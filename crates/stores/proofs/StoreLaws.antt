@@ -3,10 +3,12 @@ use Prim.Native.Nat.{ℕ, ◌+◌, ◌*◌, ◌/◌, ◌%◌, ◌<◌}
 use mathlib.Core.Path.{◌≡◌, refl, sym, ap}
 use mathlib.Core.Bool.{Bool, true, false, cond}
 use mathlib.Core.List.{List, []}
-use mathlib.Core.Option.{Option, none, some}
+use mathlib.Core.Option.{Option, none, some, some-ne-none, some-injective}
 use native.Mathlib.Omega.{arith}
-use borrow.Author.Tests.{ltb-false, eqb-false, eq-eqb, ne_eqb}
-use lib.Dec.{ltb, eqb}
+use borrow.Author.Tests.{ltb-false, eq-eqb, ne_eqb}
+use Rattle.std.specs.Prelude.{Some, None}
+use Rattle.std.specs.Prelude as code
+use lib.Dec.{ltb}
 use lib.ListN.{length, take, drop, length-take, take-append-drop}
 use lib.Seq.{set_out, drop-drop}
 use Rattle.basics.proofs.RangeLaws.{by_cases, contra}
@@ -25,7 +27,6 @@ use Rattle.calls.specs.declared.Kind.{Kind}
 use Rattle.calls.specs.declared.Kind.TheVariants.{Clean, Corrected, Uncorrectable, Stored, NoBank, Flipped}
 use Rattle.calls.specs.Calls.{write_in, scrub_in, AccessAnswer, got}
 use Rattle.calls.specs.Spans.{missed}
-use Rattle.calls.specs.CodeOutcomes.{kind_by}
 use Rattle.calls.specs.State.{State, state}
 use Rattle.machine.specs.Cells.{answer_of, merge, unless_lost, merge_cell, write_cell, if_corrected, scrub_cell, on_cell}
 use Rattle.machine.specs.Calls.{put_at, on_target, access_at}
@@ -56,27 +57,45 @@ has_cell Stored = true
 has_cell NoBank = false
 has_cell Flipped = true
 
-cell_kind : (n : ℕ) → n < 74 → has_cell (kind_by n) ≡ true
-unfolding kind_by
-cell_kind n h =
-    by_cases (ltb n 72) (λ t. rw t)
-    (λ t.
-    by_cases (eqb n 72) (λ u. rw (t, u))
-    (λ u. let is : n ≡ 73 = omega (arith, ltb-false n 72 t, eqb-false n 72 u) in rw (t, u, eq-eqb n 73 is)))
+-- what is right was read from a cell, and so was what is corrected
+pub right_has_cell : (kind : Kind) → is_right kind ≡ true → has_cell kind ≡ true
+right_has_cell Clean e = refl
+right_has_cell (Corrected b) e = refl
+right_has_cell Uncorrectable e = refl
+right_has_cell Stored e = refl
+right_has_cell NoBank e = e
+right_has_cell Flipped e = refl
+
+pub corrected_has_cell : (kind : Kind) → is_corrected kind ≡ true → has_cell kind ≡ true
+corrected_has_cell Clean e = refl
+corrected_has_cell (Corrected b) e = refl
+corrected_has_cell Uncorrectable e = refl
+corrected_has_cell Stored e = refl
+corrected_has_cell NoBank e = e
+corrected_has_cell Flipped e = refl
+
+-- a cell that is found is lent
+pub found_lent : (cells : List ℕ) (o : code.Option ℕ) (k : ℕ) → lent_cell cells o ≡ some k → is_lent cells k ≡ true
+found_lent cells None k e = absurd (some-ne-none k (sym e))
+found_lent cells (Some j) k e =
+    by_cases (is_lent cells j)
+    (λ t. let same : some j ≡ some k = rw t at e in rw (← some-injective j k same) t)
+    (λ t. absurd (some-ne-none k (sym (rw t at e))))
 
 -- so its cell is lent
-pub cell_lent : (cells : List ℕ) (k : ℕ) (st : State) (a n : ℕ) (d : List ℕ) (r : Registers)
-    → GivenBy st a (kind_by n) d r (lent_cell cells k) → n < 74 → is_lent cells k ≡ true
-cell_lent cells k st a n d r e h =
+pub cell_lent : (cells : List ℕ) (k : ℕ) (st : State) (a : ℕ) (kind : Kind) (d : List ℕ) (r : Registers)
+    → GivenBy st a kind d r (lent_cell cells (Some k)) → has_cell kind ≡ true → is_lent cells k ≡ true
+cell_lent cells k st a kind d r e h =
     by_cases (is_lent cells k) (λ u. u)
-    (λ u. contra (cell_kind n h) (ap has_cell (by_none st a (kind_by n) d r (rw (lent_none cells k u) at e)).0))
+    (λ u. contra h (ap has_cell (by_none st a kind d r (rw (lent_none cells k u) at e)).0))
+
+pub kept_as_it_was : (cells : List ℕ) (o : Option ℕ) {t : Bool} (cell : List ℕ) → t ≡ false → cells ≡ stored_in o t cell cells
+kept_as_it_was cells none cell no_store = refl
+kept_as_it_was cells (some k) cell no_store = rw no_store
 
 module _ (cells : List ℕ) (k : ℕ) where
-  pub stored_again : is_lent cells k ≡ true → {t : Bool} (cell new : List ℕ) → t ≡ true → new ≡ put_cell cells k cell → new ≡ stored_in (lent_cell cells k) t cell cells
+  pub stored_again : is_lent cells k ≡ true → {t : Bool} (cell new : List ℕ) → t ≡ true → new ≡ put_cell cells k cell → new ≡ stored_in (lent_cell cells (Some k)) t cell cells
   stored_again lent cell new yes-stored e = rw (lent_some cells k lent, yes-stored) e
-
-  pub kept_as_it_was : {t : Bool} (cell : List ℕ) → t ≡ false → cells ≡ stored_in (lent_cell cells k) t cell cells
-  kept_as_it_was cell no_store = by_cases (is_lent cells k) (λ t. rw (lent_some cells k t, no_store)) (λ t. rw (lent_none cells k t))
 
   -- a cell put back where it was
   put_back : put_cell cells k (cell_at cells k) ≡ cells
@@ -121,16 +140,15 @@ module _ (st : State) (a : ℕ) (kind : Kind) (d : List ℕ) (r : Registers) whe
 
 -- ---- the full write
 
-module _ (st : State) (k a d : ℕ) where
-  pub write_stored : is_lent st.cells k ≡ true → (new : List ℕ) → new ≡ put_cell st.cells k (encode columns (bytes_of_number d))
-      → ◌≡◌ {A = AccessAnswer × State} (got Stored [], state st.registers new) (access_at columns (lent_cell st.cells k) st (write_in a (bytes_of_number d)))
-  unfolding access_at on_target on_cell write_cell reported
-  write_stored t new n = rw (lent_some st.cells k t, n, eq-eqb _ 8 (number_length d))
+pub write_stored : (st : State) (o : code.Option ℕ) (k a d : ℕ) → lent_cell st.cells o ≡ some k → (new : List ℕ) → new ≡ put_cell st.cells k (encode columns (bytes_of_number d))
+    → ◌≡◌ {A = AccessAnswer × State} (got Stored [], state st.registers new) (access_at columns (lent_cell st.cells o) st (write_in a (bytes_of_number d)))
+unfolding access_at on_target on_cell write_cell reported
+write_stored st o k a d t new n = rw (t, n, eq-eqb _ 8 (number_length d))
 
-  pub write_missed : is_lent st.cells k ≡ false → (r : Registers) → r ≡ reported NoBank a st.registers
-      → ◌≡◌ {A = AccessAnswer × State} (got NoBank [], state r st.cells) (access_at columns (lent_cell st.cells k) st (write_in a (bytes_of_number d)))
-  unfolding access_at on_target missed
-  write_missed t r reports = rw (lent_none st.cells k t, reports)
+pub write_missed : (st : State) (o : code.Option ℕ) (a d : ℕ) → lent_cell st.cells o ≡ none → (r : Registers) → r ≡ reported NoBank a st.registers
+    → ◌≡◌ {A = AccessAnswer × State} (got NoBank [], state r st.cells) (access_at columns (lent_cell st.cells o) st (write_in a (bytes_of_number d)))
+unfolding access_at on_target missed
+write_missed st o a d t r reports = rw (t, reports)
 
 -- fewer than eight bytes
 pub short_length : (n count value : ℕ) → length (take n (take (count % 8) (bytes_of_number value))) < 8

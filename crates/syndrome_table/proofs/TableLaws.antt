@@ -1,57 +1,35 @@
--- FORM-8: the table of the code has the definition's reading of every syndrome, by one test over its 256 entries, which is computed; and what an entry
--- says of the reading.
+-- FORM-8: the table of the code has the definition's reading of every syndrome, by one test over its 256 entries, which is computed.
 use mathlib.Core.Path.{◌≡◌, refl, sym, ap, ◌∙◌}
-use mathlib.Core.Bool.{true, false}
-use mathlib.Core.Logic.{◌≢◌}
-use mathlib.Core.List.{List}
-use Prim.Native.Nat.{ℕ, ◌≤◌, ◌<◌}
+use mathlib.Core.List.{List, []}
+use Prim.Native.Nat.{ℕ, ◌+◌, ◌*◌, ◌/◌, ◌%◌, ◌<◌}
 use native.Mathlib.Omega.{arith}
-use borrow.Author.Tests.{eqb-true, ltb-true, ne_eqb}
-use lib.Dec.{eqb, ltb}
-use Rattle.basics.specs.Range.{every, first, first_of}
-use Rattle.basics.proofs.RangeLaws.{every_at, by_cases}
-use Rattle.ecc.specs.declared.Reading.TheVariants.{Corrected, Uncorrectable}
+use lib.ListN.{get_or, get_or-map}
+use Rattle.std.specs.Prelude.{map}
+use Rattle.std.specs.List.{range_with_len}
+use Rattle.std.proofs.lemmas.List.FromFn.{get_or-map-range_with_len}
+use Rattle.basics.specs.Range.{first, first_of}
+use Rattle.ecc.specs.declared.Reading.{Reading}
 use Rattle.ecc.specs.Columns.{columns}
 use Rattle.ecc.specs.CheckCode.{flip_column, bit_reading, reading_of}
-use Rattle.syndrome_table.specs.CodeTable.{entry_of}
-use Rattle.syndrome_table.proofs.TableList.{entry_at}
+use Rattle.syndrome_table.specs.CodeTable.{reading_by}
+use Rattle.syndrome_table.specs.declared.table.TheConstants.{SYNDROMES}
 
--- ---- its rule
+-- what the syndromes with this high digit mean, in the order of the low one
+line : ℕ → List Reading
+line high = map (λ low. reading_of columns (16 * high + low)) (range_with_len 0 16)
 
-all_entries : every (λ s. eqb (entry_at s) (entry_of (reading_of columns s))) 256 ≡ true
-unfolding every entry_of bit_reading reading_of first first_of flip_column
-all_entries = refl
+all_readings : map (map reading_by) SYNDROMES ≡ map line (range_with_len 0 16)
+unfolding reading_of bit_reading first first_of flip_column line
+all_readings = refl
 
 -- ECC-6: each entry is that of its syndrome's reading
-pub entry_reads : (s : ℕ) → s < 256 → entry_at s ≡ entry_of (reading_of columns s)
-entry_reads s h = eqb-true _ _ (every_at (λ k. eqb (entry_at k) (entry_of (reading_of columns k))) 256 all_entries s h)
-
--- ---- what an entry of a syndrome other than 0 means: below 72 it is the flip bit, and from 72 on there is none
-
-module _ (cols : List ℕ) (e s : ℕ) (is : e ≡ entry_of (reading_of cols s)) (nz : s ≢ 0) where
-  bit : ℕ
-  bit = first (λ b. eqb (flip_column cols b) s) 72 0
-
-  by_bit_lem : reading_of cols s ≡ bit_reading bit
-  unfolding reading_of bit
-  by_bit_lem = rw (ne_eqb s 0 nz)
-
-  found : ltb bit 72 ≡ true → (reading_of cols s ≡ Corrected bit) × (e ≡ bit)
-  unfolding entry_of bit_reading
-  found t = let r : reading_of cols s ≡ Corrected bit = by_bit_lem ∙ rw t in (r, is ∙ ap entry_of r)
-
-  unfound : ltb bit 72 ≡ false → (reading_of cols s ≡ Uncorrectable) × (e ≡ 73)
-  unfolding entry_of bit_reading
-  unfound t = let r : reading_of cols s ≡ Uncorrectable = by_bit_lem ∙ rw t in (r, is ∙ ap entry_of r)
-
-  pub entry_corrected : e < 72 → reading_of cols s ≡ Corrected e
-  entry_corrected h =
-      by_cases (ltb bit 72)
-      (λ t. (found t).0 ∙ ap Corrected (sym (found t).1))
-      (λ t. absurd (omega (arith, (unfound t).1)))
-
-  pub entry_uncorrectable : 72 ≤ e → reading_of cols s ≡ Uncorrectable
-  entry_uncorrectable h =
-      by_cases (ltb bit 72)
-      (λ t. absurd (omega (arith, (found t).1, ltb-true bit 72 t)))
-      (λ t. (unfound t).0)
+pub table_reads : (s : ℕ) (d : ℕ) → s < 256 → reading_by (get_or (get_or SYNDROMES (s / 16) []) (s % 16) d) ≡ reading_of columns s
+unfolding line
+table_reads s d h =
+    let entries = get_or SYNDROMES (s / 16) [] in
+    sym (get_or-map reading_by entries (s % 16) d)
+    ∙ ap (λ (l : List Reading). get_or l (s % 16) (reading_by d)) (sym (get_or-map (map reading_by) SYNDROMES (s / 16) []))
+    ∙ ap (λ (t : List (List Reading)). get_or (get_or t (s / 16) []) (s % 16) (reading_by d)) all_readings
+    ∙ ap (λ (l : List Reading). get_or l (s % 16) (reading_by d)) (get_or-map-range_with_len line 0 16 (s / 16) (s / 16) [] (omega arith) (omega arith))
+    ∙ get_or-map-range_with_len (λ low. reading_of columns (16 * (s / 16) + low)) 0 16 (s % 16) (s % 16) (reading_by d) (omega arith) (omega arith)
+    ∙ ap (reading_of columns) (omega arith)

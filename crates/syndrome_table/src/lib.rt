@@ -4,20 +4,27 @@
 ghost use Rattle.std.specs.Prelude.{◌≡◌};
 ghost use Rattle.ecc.specs.Columns.{columns};
 ghost use Rattle.ecc.specs.CheckCode.{reading_of};
-ghost use Rattle.syndrome_table.specs.CodeTable.{entry_of};
+ghost use Rattle.syndrome_table.specs.CodeTable.{reading_by};
 
-use crate::table::SYNDROMES;
+use crate::table::{N, SYNDROMES, U};
+use ecc::Reading;
 
 mod table;
 
-// The entries that are no flip bits.
-pub const CLEAN: u8 = 72;
-
-pub const UNCORRECTABLE: u8 = 73;
-
-// ECC-6, FORM-8: the entry of a syndrome: the flip bit that is corrected, or one of the two above. Its high digit finds the line.
-pub fn entry(s: u8) -> u8
-    ensures { result ≡ entry_of (reading_of columns s) }
+// What an entry stands for.
+fn reading_by(entry: u8) -> Reading
+    ensures { result ≡ reading_by entry }
 {
-    SYNDROMES[(s / 16) as usize][(s % 16) as usize]
+    match entry {
+        N => Reading::Clean,
+        U => Reading::Uncorrectable,
+        bit => Reading::Corrected(bit),
+    }
+}
+
+// ECC-6, FORM-8: what a syndrome means. Its high digit finds the line of the table.
+pub fn reading(syndrome: u8) -> Reading
+    ensures { result ≡ reading_of columns syndrome }
+{
+    reading_by(SYNDROMES[(syndrome / 16) as usize][(syndrome % 16) as usize])
 }

@@ -1,14 +1,13 @@
 // The table of the syndromes under the columns of ECC-2. A line has the syndromes with the same high hexadecimal digit, in the order of the low
-// one, as docs/SYNDROMES.md has them.
-use crate::{CLEAN, UNCORRECTABLE};
+// one, as docs/SYNDROMES.md has them. Entries are numbers, since `rt fmt` would break a line of sixteen readings into sixteen.
 
 // A flip bit stands for "corrected" at that bit, and each of the other two readings has its letter of LINE-14.
-const N: u8 = CLEAN;
+pub(crate) const N: u8 = 72;
 
-const U: u8 = UNCORRECTABLE;
+pub(crate) const U: u8 = 73;
 
 // ECC-6, FORM-8: the entries of the 256 syndromes.
-pub(crate) const SYNDROMES: [[u8; 16]; 16] = [
+pub(crate) static SYNDROMES: [[u8; 16]; 16] = [
     [N, 64, 65, U, 66, U, U, 0, 67, U, U, 1, U, 2, 3, U],
     [68, U, U, 4, U, 5, 6, U, U, 7, 8, U, 9, U, U, 56],
     [69, U, U, 10, U, 11, 12, U, U, 13, 14, U, 15, U, U, 57],

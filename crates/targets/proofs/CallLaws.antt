@@ -10,23 +10,21 @@ use lib.ListN.{length, take, drop}
 use borrow.Author.Tests.{ltb-true}
 use Rattle.basics.specs.Lists.{All}
 use Rattle.basics.proofs.RangeLaws.{by_cases}
-use Rattle.refusals.specs.Paper.{Declined, refuse, ◌else◌, refused, paper, paper_verdict, ◌gives◌}
+use Rattle.refusals.specs.Paper.{Declined, refuse, ◌else◌, paper, paper_verdict, ◌gives◌}
 use Rattle.refusals.specs.declared.Refusal.{Refusal}
-use Rattle.refusals.specs.declared.Verdict.{Verdict}
-use Rattle.refusals.specs.declared.Verdict.TheVariants.{Accepted, Refused}
+use Rattle.std.specs.Prelude.{Result, Ok, Err, ⊤}
 use Rattle.refusals.proofs.ChainLaws.{else_none, else_left, else_right, else_assoc}
 use Rattle.registers.specs.declared.Registers.{Registers}
 use Rattle.banks.specs.Setup.{Setup, setup_of}
 use Rattle.banks.specs.Judge.{not_ready}
 use Rattle.banks.specs.Map.{in_span, cell_of}
 use Rattle.ecc.specs.Columns.{columns}
-use Rattle.calls.specs.declared.Answer.{Answer}
 use Rattle.calls.specs.Calls.{MemoryCall, read, write, flip, scrub, burst_read, burst_write, Access, read_in, write_in, address_of, crosses, room, next_doubleword, parts}
 use Rattle.calls.proofs.SpanLaws.{count_fits}
 use Rattle.calls.proofs.SplitLaws.{split_rest, room_ends, next_at}
 use Rattle.calls.specs.Spans.{by_count, by_bit, by_burst, by_arguments, by_spans, by_call}
 use Rattle.calls.specs.State.{State}
-use Rattle.calls.specs.Answers.{paper_answer, leaves, effect_of}
+use Rattle.calls.specs.Answers.{leaves, effect_of}
 use Rattle.machine.specs.Calls.{setup, spans_of, unlent, refusal, access_at, access, accesses, performed, memory_call, called}
 use Rattle.machine.proofs.SetupLaws.{setup_after}
 use Rattle.address_map.specs.CodeSelection.{selection}
@@ -73,15 +71,15 @@ module _ (s : Setup) (a : ℕ) where
       go none e = rw (e refl)
 
 -- the verdict of a route and of the arguments w
-module _ (to : Route) (s : Setup) (a : ℕ) (leads : Leads to s a) (v : Verdict) (d : Declined)
+module _ (to : Route) (s : Setup) (a : ℕ) (leads : Leads to s a) (v : Result ⊤ Refusal) (d : Declined)
     (judged : paper_verdict v ≡ (refuse (ltb 8 (bank_in to)) (5 ∷ []) else d)) where
   verdict_is : paper_verdict v ≡ (not_ready s else d)
   verdict_is = judged ∙ ap (λ (e : Declined). e else d) leads.not_ready_lem
 
-  pub refused_early : (x : Refusal) → v ≡ Refused x → (not_ready s else d) ≡ some (paper x)
+  pub refused_early : (x : Refusal) → v ≡ Err x → (not_ready s else d) ≡ some (paper x)
   refused_early x e = sym verdict_is ∙ ap paper_verdict e
 
-  pub accepted_early : v ≡ Accepted → (not_ready s ≡ none) × (d ≡ none)
+  pub accepted_early : v ≡ Ok tt → (not_ready s ≡ none) × (d ≡ none)
   accepted_early e =
       let free : (not_ready s else d) ≡ none = sym verdict_is ∙ ap paper_verdict e in
       (else_left (not_ready s) d free, else_right (not_ready s) d free)
@@ -93,9 +91,9 @@ module _ (st : State) (c : MemoryCall) (buffer : List ℕ) where
   unfolding refusal
   refusal_is = sym (else_assoc (not_ready (setup st)) (by_call (spans_of (setup st)) c) (unlent st (parts c)))
 
-  pub refused_left : (x : Answer) (n : List ℕ) → early (setup st) c ≡ some n → paper_answer x ≡ refused n → leaves x st buffer ≡ called columns st c buffer
+  pub refused_left : (x : Refusal) → early (setup st) c ≡ some (paper x) → leaves (Err x) st buffer ≡ called columns st c buffer
   unfolding called memory_call performed
-  refused_left x n e answers = rw (refusal_is, e, answers)
+  refused_left x e = rw (refusal_is, e)
 
 -- ---- its accesses
 

@@ -2,22 +2,17 @@
 #![tactic(auto)]
 
 ghost use Rattle.std.specs.Prelude.{◌≡◌, true, cond, ◌+◌, ◌*◌, ◌/◌, ◌^◌, ◌≤◌, ◌<◌, ltb};
+ghost use Rattle.refusals.specs.Paper.{paper_outcome};
 ghost use Rattle.banks.specs.Setup.{Bounded, setup_of};
 ghost use Rattle.banks.specs.Map.{most_cells, cells};
-ghost use Rattle.way_back.specs.WayBack.{paper_back, in_range, back};
+ghost use Rattle.way_back.specs.WayBack.{in_range, back};
 ghost use Rattle.way_back.specs.CodeAddress.{address_at};
 
 use banks::{Bank, Column, MEGABYTE_BITS, Row};
 use refusals::Refusal;
 use registers::Registers;
 
-// What the way back returns.
-#[derive(Clone, Copy)]
-pub enum Origin {
-    Refused(Refusal),
-    Address(u32),
-}
-
+// `Bounded` is asked of each function: the fields of a `Bank` are public, so its type holds no bound, and a second type of bank would only say it again.
 fn is_in_range(b: Bank, row: Row, column: Column) -> bool
     requires { Bounded b }
     ensures { result ≡ in_range b row column }
@@ -44,9 +39,9 @@ fn next_doubleword(start: u32, n: u32, w: u32) -> u32
     if d < start { d + n } else { d }
 }
 
-fn address(b: Bank, row: Row, column: Column) -> Origin
+fn address(b: Bank, row: Row, column: Column) -> Result<u32, Refusal>
     requires { Bounded b × (in_range b row column ≡ true) }
-    ensures { paper_back result ≡ address_at b row column }
+    ensures { paper_outcome result ≡ address_at b row column }
 {
     let d = next_doubleword(
         b.start << MEGABYTE_BITS,
@@ -54,25 +49,25 @@ fn address(b: Bank, row: Row, column: Column) -> Origin
         cell_in_bank_at(b, row, column),
     );
     if d < (b.last + 1) << MEGABYTE_BITS {
-        Origin::Address(d << 3)
+        Ok(d << 3)
     } else {
-        Origin::Refused(Refusal::NoAddress)
+        Err(Refusal::NoAddress)
     }
 }
 
 // BACK-1: the way back. A bank above 7 is decoded as a disabled one.
-pub fn way_back(r: Registers, bank: u32, row: Row, column: Column) -> Origin
-    ensures { paper_back result ≡ back (setup_of r) bank row column }
+pub fn way_back(r: Registers, bank: u32, row: Row, column: Column) -> Result<u32, Refusal>
+    ensures { paper_outcome result ≡ back (setup_of r) bank row column }
 {
     if !judging::is_ready(r) {
-        return Origin::Refused(Refusal::NotReady);
+        return Err(Refusal::NotReady);
     }
     let b = judging::decode_bank(r, bank);
     if !b.enabled {
-        return Origin::Refused(Refusal::BankOff);
+        return Err(Refusal::BankOff);
     }
     if !is_in_range(b, row, column) {
-        return Origin::Refused(Refusal::RowOrColumnTooLarge);
+        return Err(Refusal::RowOrColumnTooLarge);
     }
     address(b, row, column)
 }

@@ -2,73 +2,94 @@
 // a bank whose last megabyte is 255, 256 or 1023 (REG-5), and in a bank with thirteen row bits (REG-13).
 #![tactic(auto)]
 
-use banks::{Column, Mapping, Place, Row};
+use banks::{Column, Place, Row};
 use refusals::Refusal;
 use registers::Registers;
-use std::io;
-use way_back::Origin;
+use std::{fmt, io};
 
-// The record after a register write. If the write is refused the record is unchanged, which shows in the lines printed.
-fn set(r: Registers, offset: u8, value: u8) -> Registers {
-    let written = register_calls::write(r, offset as u32, value);
-    let next = written.registers;
-    next
+// The record after register writes. A write that is refused leaves the record as it was, which shows in the lines printed.
+fn written(start: Registers, writes: &[(u8, u8)]) -> Registers {
+    let mut r = start;
+    for (offset, value) in writes {
+        r = register_calls::write(r, *offset as u32, *value).registers;
+    }
+    r
 }
 
 // A span of bank 0 or 1, in megabytes.
 fn set_span(r: Registers, bank: u8, start: u32, last: u32) -> Registers {
     let n = bank % 2;
-    let low = set(r, Registers::START + n, (start % 256) as u8);
-    let whole = set(
-        low,
-        Registers::START_EXTENDED + n,
-        (start / 256 % 256) as u8,
-    );
-    let end = set(whole, Registers::END + n, (last % 256) as u8);
-    set(end, Registers::END_EXTENDED + n, (last / 256 % 256) as u8)
+    let [start_low, start_high, _, _] = start.to_le_bytes();
+    let [last_low, last_high, _, _] = last.to_le_bytes();
+    written(
+        r,
+        &[
+            (Registers::START + n, start_low),
+            (Registers::START_EXTENDED + n, start_high),
+            (Registers::END + n, last_low),
+            (Registers::END_EXTENDED + n, last_high),
+        ],
+    )
 }
 
 // Enables the banks and switches memory on.
 fn switch_on(r: Registers, enabled: u8) -> Registers {
-    set(
-        set(r, Registers::BANK_ENABLE, enabled),
-        Registers::MEMORY,
-        8,
+    written(
+        r,
+        &[(Registers::BANK_ENABLE, enabled), (Registers::MEMORY, 8)],
     )
 }
 
 // EX-3: the set-up of the worked examples.
 fn worked_record() -> Registers {
     let spans = set_span(set_span(Registers::fresh(), 0, 0, 1), 1, 2, 4);
-    switch_on(set(spans, Registers::ROW_CODES, 4), 3)
+    switch_on(written(spans, &[(Registers::ROW_CODES, 4)]), 3)
 }
 
-fn print_number(rt: &impl Print, name: &str, n: u32) -> io::Result<()> {
-    print!(rt; "{name}{n}")
+// What is printed of a call's answer.
+#[derive(Drop)]
+struct Printed<T>(T);
+
+impl fmt::Display for Printed<Refusal> {
+    fn fmt<W: fmt::Write>(&self, f: &mut fmt::Formatter<W>) -> fmt::Result {
+        write!(f, " refusal {}", self.0.number())
+    }
 }
 
-fn print_refusal(rt: &impl Print, x: Refusal) -> io::Result<()> {
-    print_number(rt, " refusal ", refusals::number(x) as u32)
+impl fmt::Display for Printed<Place> {
+    fn fmt<W: fmt::Write>(&self, f: &mut fmt::Formatter<W>) -> fmt::Result {
+        let Place {
+            bank,
+            row: Row(row),
+            column: Column(column),
+            cell,
+        } = self.0;
+        write!(f, " bank {bank} row {row} column {column} cell {cell}")
+    }
 }
 
-fn print_place(rt: &impl Print, p: Place) -> io::Result<()> {
-    let row = p.row;
-    let column = p.column;
-    print_number(rt, " bank ", p.bank as u32)?;
-    print_number(rt, " row ", row.0)?;
-    print_number(rt, " column ", column.0)?;
-    print_number(rt, " cell ", p.cell)
+impl fmt::Display for Printed<Result<Option<Place>, Refusal>> {
+    fn fmt<W: fmt::Write>(&self, f: &mut fmt::Formatter<W>) -> fmt::Result {
+        match self.0 {
+            Err(x) => write!(f, "{}", Printed(x)),
+            Ok(None) => write!(f, " no bank"),
+            Ok(Some(p)) => write!(f, "{}", Printed(p)),
+        }
+    }
+}
+
+impl fmt::Display for Printed<Result<u32, Refusal>> {
+    fn fmt<W: fmt::Write>(&self, f: &mut fmt::Formatter<W>) -> fmt::Result {
+        match self.0 {
+            Err(x) => write!(f, "{}", Printed(x)),
+            Ok(a) => write!(f, " address {a:08x}"),
+        }
+    }
 }
 
 fn print_map(rt: &impl Print, r: Registers, address: u32) -> io::Result<()> {
-    print!(rt; "{address:08x}")?;
-    let mapping = address_map::map(r, address);
-    match mapping {
-        Mapping::Refused(x) => print_refusal(rt, x)?,
-        Mapping::NoBank => print!(rt; " no bank")?,
-        Mapping::At(p) => print_place(rt, p)?,
-    }
-    println!(rt;)
+    let mapping = Printed(address_map::map(r, address));
+    println!(rt; "{address:08x}{mapping}")
 }
 
 fn print_way_back(
@@ -78,24 +99,15 @@ fn print_way_back(
     row: u32,
     column: u32,
 ) -> io::Result<()> {
-    print_number(rt, "bank ", bank)?;
-    print_number(rt, " row ", row)?;
-    print_number(rt, " column ", column)?;
-    let origin = way_back::way_back(r, bank, Row(row), Column(column));
-    match origin {
-        Origin::Refused(x) => print_refusal(rt, x)?,
-        Origin::Address(a) => print!(rt; " address {a:08x}")?,
-    }
-    println!(rt;)
+    let origin = Printed(way_back::way_back(r, bank, Row(row), Column(column)));
+    println!(rt; "bank {bank} row {row} column {column}{origin}")
 }
 
 // A bank of two megabytes: its last address, and the one after it.
 fn print_end(rt: &impl Print, last: u32, end: u32, next: u32) -> io::Result<()> {
-    let start = if 0 < last { last - 1 } else { 0 };
+    let start = last.saturating_sub(1);
     let r = switch_on(set_span(Registers::fresh(), 0, start, last), 1);
-    print_number(rt, "bank 0 from MB ", start)?;
-    print_number(rt, " to ", last)?;
-    println!(rt;)?;
+    println!(rt; "bank 0 from MB {start} to {last}")?;
     print_map(rt, r, end)?;
     print_map(rt, r, next)
 }
@@ -103,7 +115,7 @@ fn print_end(rt: &impl Print, last: u32, end: u32, next: u32) -> io::Result<()> 
 // EX-12: a bank of 256 megabytes from megabyte 1 on, with row code 3.
 fn print_thirteen_rows(rt: &impl Print) -> io::Result<()> {
     let span = set_span(Registers::fresh(), 0, 1, 256);
-    let r = switch_on(set(span, Registers::ROW_CODES, 3), 1);
+    let r = switch_on(written(span, &[(Registers::ROW_CODES, 3)]), 1);
     println!(rt; "bank 0 from MB 1 to 256, row code 3")?;
     print_map(rt, r, 0x00100000)?;
     print_map(rt, r, 0x0fffffff)?;

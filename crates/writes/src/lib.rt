@@ -18,19 +18,18 @@ ghost use Rattle.targets.specs.CodeTargets.{carried_out};
 
 use access::{admit, crosses_end, is_allowed, judge_count, room_at};
 use address_map::{Route, cell_at, route};
-use calls::Answer;
+use calls::{Answer, Kinds};
 use merging::gathered;
 use parts::{next_doubleword, route_after};
-use refusals::{Refusal, Verdict};
+use refusals::Refusal;
 use registers::Registers;
-use results::{kind_of, one, refuse, two};
 use stores::{write_full, write_short};
 
 // A write inside one doubleword, whose cell is k.
 fn write_inside(
     registers: &mut [u8; 256],
     cells: &mut [u8],
-    k: usize,
+    k: Option<usize>,
     address: u32,
     bytes: &[u8],
 ) -> Answer
@@ -38,21 +37,22 @@ fn write_inside(
     ensures { leaves result (lent_state registers.new cells.new) [] ≡ effect_of (carried_out (lent_state registers.old cells.old) ((target_of k, write_in address bytes.now) ∷ [])) [] }
 {
     if !is_allowed(cells.len(), k) {
-        return refuse(Refusal::NotLent);
+        return Err(Refusal::NotLent);
     }
     let value = gathered(bytes);
     if bytes.len() == 8 {
-        return one(kind_of(write_full(registers, cells, k, address, value)));
+        return Ok(Kinds::of([write_full(registers, cells, k, address, value)]));
     }
-    one(kind_of(write_short(registers, cells, k, address, bytes.len(), value)))
+    let kind = write_short(registers, cells, k, address, bytes.len(), value);
+    Ok(Kinds::of([kind]))
 }
 
 // A write over the end of a doubleword, whose two cells are k and l.
 fn write_across(
     registers: &mut [u8; 256],
     cells: &mut [u8],
-    k: usize,
-    l: usize,
+    k: Option<usize>,
+    l: Option<usize>,
     address: u32,
     bytes: &[u8],
 ) -> Answer
@@ -60,15 +60,15 @@ fn write_across(
     ensures { leaves result (lent_state registers.new cells.new) [] ≡ effect_of (carried_out (lent_state registers.old cells.old) ((target_of k, write_in address (take (room address) bytes.now)) ∷ (target_of l, write_in (next_doubleword address) (drop (room address) bytes.now)) ∷ [])) [] }
 {
     if !(is_allowed(cells.len(), k) & is_allowed(cells.len(), l)) {
-        return refuse(Refusal::NotLent);
+        return Err(Refusal::NotLent);
     }
     let value = gathered(bytes);
     let n = room_at(address);
-    let low = kind_of(write_short(registers, cells, k, address, n, value));
+    let low = write_short(registers, cells, k, address, n, value);
     let next = next_doubleword(address);
     let rest = value >> (8 * n);
-    let high = kind_of(write_short(registers, cells, l, next, bytes.len() - n, rest));
-    two(low, high)
+    let high = write_short(registers, cells, l, next, bytes.len() - n, rest);
+    Ok(Kinds::of([low, high]))
 }
 
 // A write over the end of a doubleword, if `to` is the route of its address.
@@ -82,16 +82,11 @@ fn write_split(
     requires { (crosses address (length bytes.now) ≡ true) × (paper_route to ≡ (not_ready (setup_of (record_of registers.old)) gives selection (setup_of (record_of registers.old)) (address / 2 ^ 20))) }
     ensures { leaves result (lent_state registers.new cells.new) [] ≡ write_call columns (lent_state registers.old cells.old) address bytes.now }
 {
-    let verdict = admit(to, judge_count(address, bytes.len()));
-    match verdict {
-        Verdict::Refused(x) => refuse(x),
-        Verdict::Accepted => {
-            let k = cell_at(to, address);
-            let after = route_after(registers, to, address);
-            let l = cell_at(after, next_doubleword(address));
-            write_across(registers, cells, k, l, address, bytes)
-        }
-    }
+    admit(to, judge_count(address, bytes.len()))?;
+    let k = cell_at(to, address);
+    let after = route_after(registers, to, address);
+    let l = cell_at(after, next_doubleword(address));
+    write_across(registers, cells, k, l, address, bytes)
 }
 
 // MEM-4, MEM-5, MEM-18: a write.
@@ -107,12 +102,7 @@ pub fn write_in_place(
     if crosses_end(address, bytes.len()) {
         return write_split(registers, cells, to, address, bytes);
     }
-    let verdict = admit(to, judge_count(address, bytes.len()));
-    match verdict {
-        Verdict::Refused(x) => refuse(x),
-        Verdict::Accepted => {
-            let k = cell_at(to, address);
-            write_inside(registers, cells, k, address, bytes)
-        }
-    }
+    admit(to, judge_count(address, bytes.len()))?;
+    let k = cell_at(to, address);
+    write_inside(registers, cells, k, address, bytes)
 }

@@ -12,37 +12,37 @@ pub select-requires : goal.select-requires
 select-requires c =
     let r = c.args.r in
     let h : (o : ℕ) → o < 256 → at r o < 256 = λ o l. (let x : Fits w8 (get_or r.bytes o 0) = search rules in x.fits) in
-    (of_record r h c.fields_of-fields.result c.fields_of-fields.ensures).1
+    (of_record r h c.from-fields.result c.from-fields.ensures).1
 
 pub place_in-requires : goal.place_in-requires
 place_in-requires c =
     let to = route_by c.select.result in
-    (found to (setup_by c.fields_of-fields.result) c.args.address c.select.ensures.result_value (rw c.bank_of-bank.ensures at c.if-bank-lt-NO_BANK.true)).inside
+    (found to (setup_by c.from-fields.result) c.args.address c.select.ensures.result_value (omega (arith, c.bank_of.ensures))).inside
 
-pub returns-then-bank-lt-NO_BANK : goal.returns-then-bank-lt-NO_BANK
+pub returns-in-0-to-7 : goal.returns-in-0-to-7
 unfolding mapped
-returns-then-bank-lt-NO_BANK c =
+returns-in-0-to-7 c =
     let a = c.args in
     let h : (o : ℕ) → o < 256 → at a.r o < 256 = λ o l. (let x : Fits w8 (get_or a.r.bytes o 0) = search rules in x.fits) in
-    let s = setup_by c.fields_of-fields.result in
+    let s = setup_by c.from-fields.result in
     let to = route_by c.select.result in
-    let l = rw c.bank_of-bank.ensures at c.if-bank-lt-NO_BANK.true in
-    rw (← (of_record a.r h c.fields_of-fields.result c.fields_of-fields.ensures).0, (found to s a.address c.select.ensures.result_value l).on, located_found to s a.address c.select.ensures.result_value l, c.place_in.ensures)
+    let l : bank_in to < 8 = omega (arith, c.bank_of.ensures) in
+    rw (← (of_record a.r h c.from-fields.result c.from-fields.ensures).0, (found to s a.address c.select.ensures.result_value l).on, located_found to s a.address c.select.ensures.result_value l, c.place_in.ensures)
 
-pub returns-then-bank-eq-NO_BANK : goal.returns-then-bank-eq-NO_BANK
+pub returns-in-8 : goal.returns-in-8
 unfolding mapped located
-returns-then-bank-eq-NO_BANK c =
+returns-in-8 c =
     let a = c.args in
     let h : (o : ℕ) → o < 256 → at a.r o < 256 = λ o l. (let x : Fits w8 (get_or a.r.bytes o 0) = search rules in x.fits) in
     let to = route_by c.select.result in
-    let z = no_bank to (setup_by c.fields_of-fields.result) a.address c.select.ensures.result_value (sym c.bank_of-bank.ensures ∙ c.if-bank-eq-NO_BANK.true) in
-    rw (← (of_record a.r h c.fields_of-fields.result c.fields_of-fields.ensures).0, z.0, z.1)
+    let z = no_bank to (setup_by c.from-fields.result) a.address c.select.ensures.result_value (sym c.bank_of.ensures ∙ c.in-8.is) in
+    rw (← (of_record a.r h c.from-fields.result c.from-fields.ensures).0, z.0, z.1)
 
-pub returns : goal.returns
+pub returns-in_default : goal.returns-in_default
 unfolding mapped
-returns c =
+returns-in_default c =
     let a = c.args in
     let h : (o : ℕ) → o < 256 → at a.r o < 256 = λ o l. (let x : Fits w8 (get_or a.r.bytes o 0) = search rules in x.fits) in
     let to = route_by c.select.result in
-    let above : 8 < bank_in to = omega (arith, c.bank_of-bank.ensures, c.if-bank-lt-NO_BANK.false, c.if-bank-eq-NO_BANK.false) in
-    rw (← (of_record a.r h c.fields_of-fields.result c.fields_of-fields.ensures).0, not_ready_lem to (setup_by c.fields_of-fields.result) a.address c.select.ensures.result_value above)
+    let above : 8 < bank_in to = omega (arith, c.bank_of.ensures) in
+    rw (← (of_record a.r h c.from-fields.result c.from-fields.ensures).0, not_ready_lem to (setup_by c.from-fields.result) a.address c.select.ensures.result_value above)

@@ -1,7 +1,9 @@
 -- Refused early, or carried out on the cells of the line, which lies in one megabyte.
 use Prim.Native.Nat.{ℕ}
-use mathlib.Core.Path.{◌≡◌, refl, ◌∙◌}
+use mathlib.Core.Path.{◌≡◌, refl, ap, ◌∙◌}
 use mathlib.Core.List.{[]}
+use Rattle.std.proofs.Common.{rules}
+use Rattle.std.specs.Prelude.{Err}
 use native.Mathlib.Omega.{arith}
 use lib.ListN.{length}
 use Rattle.registers.specs.Record.{record_of}
@@ -23,27 +25,29 @@ write_beats-requires c =
     let a = c.args.address in
     let n = c.args.bytes.now in
     let leads = route_leads r a _ c.route-to.ensures in
-    let free = accepted_early c.route-to.result (setup_of r) a leads c.admit-verdict.result _ (rw c.judge_burst.ensures at c.admit-verdict.ensures) c.in-Accepted.is in
+    let free = accepted_early c.route-to.result (setup_of r) a leads c.admit.result _ (rw c.judge_burst.ensures at c.admit.ensures) c.in_ok-admit.was in
     (burst_fits a (length n) free.1).1
 
-pub returns-in-Refused : goal.returns-in-Refused
-returns-in-Refused c =
+pub returns-in_err-admit : goal.returns-in_err-admit
+returns-in_err-admit c =
     let r = record_of c.args.registers.now in
     let a = c.args.address in
     let n = c.args.bytes.now in
     let leads = route_leads r a _ c.route-to.ensures in
-    refused_left (lent_state c.args.registers.now c.args.cells.now) (burst_write a n) [] c.refuse.result _
-    (burst_write_early (setup_of r) a n ∙ refused_early c.route-to.result (setup_of r) a leads c.admit-verdict.result _ (rw c.judge_burst.ensures at c.admit-verdict.ensures) _ c.in-Refused.is) c.refuse.ensures
+    let is : c.from_residual.result ≡ Err c.in_err-admit.field-0.0 = search rules in
+    rw is
+    (refused_left (lent_state c.args.registers.now c.args.cells.now) (burst_write a n) [] _
+    (burst_write_early (setup_of r) a n ∙ refused_early c.route-to.result (setup_of r) a leads c.admit.result _ (rw c.judge_burst.ensures at c.admit.ensures) _ c.in_err-admit.was))
 
-pub returns-in-Accepted : goal.returns-in-Accepted
+pub returns : goal.returns
 unfolding parts
-returns-in-Accepted c =
+returns c =
     let r = record_of c.args.registers.now in
     let a = c.args.address in
     let n = c.args.bytes.now in
     let to = c.route-to.result in
     let leads = route_leads r a _ c.route-to.ensures in
-    let free = accepted_early to (setup_of r) a leads c.admit-verdict.result _ (rw c.judge_burst.ensures at c.admit-verdict.ensures) c.in-Accepted.is in
+    let free = accepted_early to (setup_of r) a leads c.admit.result _ (rw c.judge_burst.ensures at c.admit.ensures) c.in_ok-admit.was in
     let cell : (i : ℕ) → target_of (cell_by to (beat_address a i)) ≡ cell_of (setup_of r) (beat_address a i) = λ i. leads.cell free.0 (beat_address a i) (omega (arith, beat_in_line a i)) in
     c.write_beats.ensures
     ∙ carried_left (lent_state c.args.registers.now c.args.cells.now) (burst_write a n) [] (beat_targets to a (λ i. write_in (beat_address a i) (beat_bytes n i)))

@@ -3,11 +3,5 @@ use Rattle.std.proofs.Common.{ℕ, sym}
 use Rattle.std.proofs.lemmas.List.{length-replicate}
 use Rattle.busline.proofs.main.Goals as goal
 
-pub slice_bounds-run-end : goal.slice_bounds-run-end
-slice_bounds-run-end c = sym (length-replicate {A = ℕ} 65520 0)
-
-pub slice_bounds-run-end-2 : goal.slice_bounds-run-end-2
-slice_bounds-run-end-2 c = sym (length-replicate {A = ℕ} 16384 0)
-
 pub slice_bounds-run-end-3 : goal.slice_bounds-run-end-3
 slice_bounds-run-end-3 c = sym (length-replicate {A = ℕ} 671744 0)

@@ -1,18 +1,14 @@
--- Where there are fewer than eight bytes, 0 (`eight_none`); else the number of eight that are read one by one (`eight_read`).
-use native.Mathlib.Omega.{arith}
-use mathlib.Core.Path.{◌∙◌}
-use Rattle.eight_bytes.proofs.ByteLaws.{eight_none, eight_read}
+-- Where there are eight bytes, `from_le_bytes` makes their number (`eight_number`); else 0 has the bytes of `eight_at` (`eight_none`).
+use mathlib.Core.Path.{ap, ◌∙◌}
+use Rattle.std.specs.Int.{w64, from_le_bytes}
+use Rattle.eight_bytes.proofs.ByteLaws.{eight_none, eight_number}
 use Rattle.eight_bytes.proofs.number_at.Goals as goal
 
-pub returns-then-bytes-lt8 : goal.returns-then-bytes-lt8
-returns-then-bytes-lt8 c =
-    let a = c.args in eight_none a.bytes.now a.at (omega arith)
-
-pub returns-then-bytes-at : goal.returns-then-bytes-at
-returns-then-bytes-at c =
-    let a = c.args in eight_none a.bytes.now a.at (omega arith)
-
-pub returns : goal.returns
-returns c =
+pub returns-in-Some : goal.returns-in-Some
+returns-in-Some c =
     let a = c.args in
-    c.number_of.ensures ∙ eight_read a.bytes.now a.at (omega arith)
+    let some = c.in-Some.ensures in
+    eight_number a.bytes.now a.at c.from_le_bytes.result some.0 (λ k. (c.type_inv.bytes k).fits) (c.from_le_bytes.ensures ∙ ap (from_le_bytes w64) some.1)
+
+pub returns-in-None : goal.returns-in-None
+returns-in-None c = eight_none c.args.bytes.now c.args.at c.in-None.ensures

@@ -23,4 +23,4 @@ returns c =
     let few : megabyte_bits b % 16 ≡ megabyte_bits b = omega (arith, few_bits b d) in
     let k : c.column_bits-columns.result ≡ b.column_bits = c.column_bits-columns.ensures ∙ rw (code, bits, small, few, ← rows_by_bits f n) (columns_are b d) in
     let r : 17 + c.bits_in-bits.result - c.column_bits-columns.result ≡ b.row_bits = rw (bits, k) (rows_left b d) in
-    rw (r, k, c.wide.ensures, c.wide-2.ensures) (bank_parts f n)
+    rw (r, k, c.start.ensures.value, c.last.ensures.value, same) (bank_parts f n)

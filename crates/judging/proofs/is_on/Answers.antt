@@ -12,4 +12,4 @@ pub returns : goal.returns
 returns c =
     let r = c.args.r in
     let h : (o : ℕ) → o < 256 → at r o < 256 = λ o l. (let x : Fits w8 (get_or r.bytes o 0) = search rules in x.fits) in
-    rw (← (of_record r h c.fields_of-fields.result c.fields_of-fields.ensures).0) c.is_on.ensures
+    rw (← (of_record r h c.from.result c.from.ensures).0) c.is_on.ensures

@@ -1,39 +1,35 @@
--- `line::execute_in_place`: without room nothing is done (`no_room`); else what was parsed is what the line asks for (`parsed_line`), and the bytes that
--- are handed on are a part of those that were parsed (`parsed_fits`).
-use native.Mathlib.Omega.{arith}
-use mathlib.Core.Path.{◌≡◌, sym, ◌∙◌}
-use mathlib.Core.List.{List}
-use Prim.Native.Nat.{ℕ, ◌≤◌}
-use lib.ListN.{length}
-use lib.Seq.{length-take-le}
+-- `line::execute_in_place`: without room nothing is done (`no_room`); else what was parsed is what the line asks for (`executed`).
+use Rattle.std.proofs.Common.{arith, ap, sym, ◌∙◌, ℕ, List, Some, None}
 use Rattle.ecc.specs.Columns.{columns}
 use Rattle.registers.specs.Record.{record_of}
-use Rattle.calls.specs.State.{state}
-use Rattle.parser.specs.declared.request.Parsed.{Parsed}
-use Rattle.parser.specs.CodeParsed.{parsed_as}
-use Rattle.parser.specs.Format.{parse}
-use Rattle.parser.proofs.ParsedLaws.{parsed_fits}
-use Rattle.line.proofs.LineLaws.{no_room, parsed_line}
+use Rattle.calls.specs.State.{State, state}
+use Rattle.line.specs.Line.{or_malformed}
+use Rattle.line.specs.CodeLinePrinted.{LineEffect}
+use Rattle.line.proofs.LineLaws.{no_room, executed}
 use Rattle.line.proofs.execute_in_place.Goals as goal
 
-count_fits : (line : List ℕ) (p : Parsed) → p ≡ parsed_as (parse line) → p.count ≤ length p.bytes
-count_fits line p e = rw e (parsed_fits (parse line))
+-- a line that changes neither record nor cells
+abbrev left : State → ℕ × List ℕ → LineEffect
+left st x = (x.0, x.1, st)
 
-pub returns-then-out-lt-LONGEST_OUTPUT_LINE : goal.returns-then-out-lt-LONGEST_OUTPUT_LINE
-returns-then-out-lt-LONGEST_OUTPUT_LINE c =
-    let a = c.args in no_room columns (state (record_of a.registers.now) a.cells.now) a.line.now a.out.now (omega arith)
+pub returns-in_default : goal.returns-in_default
+returns-in_default c =
+    let a = c.args in no_room columns (state (record_of a.registers.now) a.cells.now) a.line.now a.out.now (omega (arith, c.in_default.ensures.cases))
 
-pub slice_bounds-bytes-end : goal.slice_bounds-bytes-end
-slice_bounds-bytes-end c =
-    let p = c.parse-parsed in count_fits _ p.result p.ensures
-
-pub slice_bounds-request_line-end : goal.slice_bounds-request_line-end
-slice_bounds-request_line-end c =
-    let p = c.parse-parsed in
-    sym (length-take-le p.result.count p.result.bytes (count_fits _ p.result p.ensures))
-
-pub returns : goal.returns
-returns c =
+pub returns-in-Some-parse : goal.returns-in-Some-parse
+unfolding or_malformed
+returns-in-Some-parse c =
     let a = c.args in
-    c.request_line.ensures
-    ∙ parsed_line columns (state (record_of a.registers.now) a.cells.now) a.line.now a.out.now c.parse-parsed.result (omega arith) c.parse-parsed.ensures
+    let r = c.request_line in
+    let room = c.in-Some.ensures.cases in
+    executed columns (state (record_of a.registers.now) a.cells.now) a.line.now a.out.now (Some c.in-Some-parse.request) c.in-Some.room.now r.result r.new.out
+    (state (record_of r.new.registers) r.new.cells) room.enough room.same (sym c.in-Some-parse.is ∙ c.parse.ensures) r.ensures
+
+pub returns-in-None : goal.returns-in-None
+unfolding or_malformed
+returns-in-None c =
+    let a = c.args in
+    let m = c.malformed_line in
+    let st = state (record_of a.registers.now) a.cells.now in
+    let room = c.in-Some.ensures.cases in
+    executed columns st a.line.now a.out.now None c.in-Some.room.now m.result m.new.out st room.enough room.same (sym c.in-None.is ∙ c.parse.ensures) (ap (left st) m.ensures)

@@ -9,6 +9,6 @@ use Rattle.line.proofs.register_write_line.Goals as goal
 pub returns : goal.returns
 returns c =
     let a = c.args in
-    let w = c.write-written in
+    let w = c.write_in_place-verdict in
     let p = c.verdict_line in
-    λ cells. line_printed p.result a.out.now p.new.out _ (state w.result.registers cells) _ (omega arith) p.ensures (register_write_line columns (record_of a.registers.now) cells a.offset a.value w.result w.ensures)
+    λ cells. line_printed p.result a.out.now p.new.out _ (state (record_of w.new.registers) cells) _ (omega arith) p.ensures (register_write_line columns (record_of a.registers.now) cells a.offset a.value w.result (record_of w.new.registers) w.ensures)

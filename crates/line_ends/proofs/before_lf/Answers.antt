@@ -1,24 +1,13 @@
--- The number has these eight bytes (`eight_some`, `eight_are`), and its lowest mark is that of the first LF (`first_of_eight`). The sum is
--- below 2^64, because the first of its terms is masked (`and_le_r`).
+-- The number has these eight bytes (`eight_some`, `eight_are`), and its lowest mark is that of the first LF (`first_of_eight`).
 use native.Mathlib.Omega.{arith}
 use Prim.Native.Nat.{◌^◌, ◌<◌}
 use mathlib.Core.Path.{◌∙◌}
-use lib.Bits.{bit_xor, and_le_r}
-use lib.Count.{trailing_le}
 use lib.ListN.{take, drop, length-drop}
 use lib.Seq.{length-take-le}
 use Rattle.eight_bytes.proofs.ByteLaws.{eight_some, eight_are}
-use Rattle.line_ends.proofs.LineEndLaws.{marks, first_of_eight}
+use Rattle.line_ends.proofs.LineEndLaws.{first_of_eight}
 use borrow.Author.Rules.{rules}
 use Rattle.line_ends.proofs.before_lf.Goals as goal
-
-pub overflow_add-t : goal.overflow_add-t
-overflow_add-t c =
-    record { fits = omega (arith, and_le_r (bit_xor c.number_at-x.result 0x0A0A0A0A0A0A0A0A) 0x7F7F7F7F7F7F7F7F) }
-
-pub overflow_cast-result : goal.overflow_cast-result
-overflow_cast-result c =
-    record { fits = omega (arith, trailing_le 64 (marks c.number_at-x.result 0x0A0A0A0A0A0A0A0A 0x7F7F7F7F7F7F7F7F 0x8080808080808080)) }
 
 pub returns : goal.returns
 returns c =

@@ -1,26 +1,12 @@
 -- The loop's invariant: the search from i on ends where that from the start does (`length_past`). It ends at an LF (`length_lf`) or at the end of the
 -- chunk (`length_end`).
-use Prim.Native.Nat.{◌+◌}
-use native.Mathlib.Omega.{arith}
-use mathlib.Core.Path.{refl}
+use Rattle.std.proofs.Common.{arith, refl, ◌+◌}
 use Rattle.line_ends.proofs.LineEndLaws.{length_lf, length_past, length_end}
 use Rattle.line_ends.proofs.rest_end.Goals as goal
-
-pub loop-i-init : goal.loop-i-init
-loop-i-init c = (omega arith, refl)
-
-pub bounds-chunk-i : goal.bounds-chunk-i
-bounds-chunk-i c = omega arith
 
 pub returns-then-chunk-i-eq10 : goal.returns-then-chunk-i-eq10
 returns-then-chunk-i-eq10 c =
     omega (arith, length_lf c.args.chunk.now c.loop-i.i (omega arith) c.if-chunk-i-eq10.true)
-
-pub overflow_add-i : goal.overflow_add-i
-overflow_add-i c = omega arith
-
-pub loop-i-smaller : goal.loop-i-smaller
-loop-i-smaller c = omega arith
 
 pub loop-i-preserved : goal.loop-i-preserved
 loop-i-preserved c =

@@ -1,48 +1,32 @@
--- `parser::by_letter`: the tests that led to an answer decide `by_letter`; an answer without bytes is the whole of it by `bare_asked`.
-use lib.ListN.{get_or}
-use borrow.Author.Tests.{eq-eqb, ne_eqb}
+-- `parser::by_letter`: the letter decides; an address and a number are the arguments of the call that it names (`numbered`).
+use Rattle.std.proofs.Common.{rules, ◌≡◌, ℕ, refl, Some, None, Option, option_map}
+use borrow.Author.Tests.{ne_eqb}
+use Rattle.calls.specs.Calls.{memory, read, flip}
+use Rattle.hex_digits.specs.Digits.{on_some}
+use Rattle.parser.specs.declared.request.Request.TheVariants as request
 use Rattle.parser.specs.Format.{by_letter}
-use Rattle.parser.proofs.ParsedLaws.{bare_asked}
+use Rattle.parser.specs.CodeParsed.{parsed_as, address_and_number}
+use Rattle.parser.proofs.FormatLaws.{numbered}
 use Rattle.parser.proofs.by_letter.Goals as goal
 
-pub returns-then-letter-eq99 : goal.returns-then-letter-eq99
-unfolding by_letter
-returns-then-letter-eq99 c =
-    let letter = get_or c.args.line.now 0 0 in
-    bare_asked _ _ _ c.bare.ensures (rw (eq-eqb letter 0x63 c.if-letter-eq99.true) c.parse_register_write.ensures)
+read_of : (o : Option (ℕ × ℕ)) → parsed_as (on_some o (λ p. Some (memory (read p.0 p.1)))) ≡ option_map (λ p. request.Read p.0 p.1) o
+read_of None = refl
+read_of (Some p) = refl
 
-pub returns-then-letter-eq103 : goal.returns-then-letter-eq103
-unfolding by_letter
-returns-then-letter-eq103 c =
-    let letter = get_or c.args.line.now 0 0 in
-    bare_asked _ _ _ c.bare-then-letter-eq103.ensures (rw (ne_eqb letter 0x63 c.if-letter-eq99.false, eq-eqb letter 0x67 c.if-letter-eq103.true) c.parse_register_read.ensures)
+flip_of : (o : Option (ℕ × ℕ)) → parsed_as (on_some o (λ p. Some (memory (flip p.0 p.1)))) ≡ option_map (λ p. request.Flip p.0 p.1) o
+flip_of None = refl
+flip_of (Some p) = refl
 
-pub returns-then-letter-eq119 : goal.returns-then-letter-eq119
+pub returns-in-114 : goal.returns-in-114
 unfolding by_letter
-returns-then-letter-eq119 c =
-    let letter = get_or c.args.line.now 0 0 in
-    rw (ne_eqb letter 0x63 c.if-letter-eq99.false, ne_eqb letter 0x67 c.if-letter-eq103.false, eq-eqb letter 0x77 c.if-letter-eq119.true) c.parse_write.ensures
+returns-in-114 c =
+    let x = c.args.rest.now in
+    let m : c.map.result ≡ option_map (λ p. request.Read p.0 p.1) c.address_and_number.result = search rules in
+    rw (c.in-114.is, numbered (λ a n. memory (read a n)) x, read_of (address_and_number x), ← c.address_and_number.ensures) m
 
-pub returns-then-letter-eq114 : goal.returns-then-letter-eq114
+pub returns-in-102 : goal.returns-in-102
 unfolding by_letter
-returns-then-letter-eq114 c =
-    let letter = get_or c.args.line.now 0 0 in
-    bare_asked _ _ _ c.bare-then-letter-eq114.ensures (rw (ne_eqb letter 0x63 c.if-letter-eq99.false, ne_eqb letter 0x67 c.if-letter-eq103.false, ne_eqb letter 0x77 c.if-letter-eq119.false, eq-eqb letter 0x72 c.if-letter-eq114.true) c.parse_read.ensures)
-
-pub returns-then-letter-eq102 : goal.returns-then-letter-eq102
-unfolding by_letter
-returns-then-letter-eq102 c =
-    let letter = get_or c.args.line.now 0 0 in
-    bare_asked _ _ _ c.bare-then-letter-eq102.ensures (rw (ne_eqb letter 0x63 c.if-letter-eq99.false, ne_eqb letter 0x67 c.if-letter-eq103.false, ne_eqb letter 0x77 c.if-letter-eq119.false, ne_eqb letter 0x72 c.if-letter-eq114.false, eq-eqb letter 0x66 c.if-letter-eq102.true) c.parse_flip.ensures)
-
-pub returns-then-letter-eq115 : goal.returns-then-letter-eq115
-unfolding by_letter
-returns-then-letter-eq115 c =
-    let letter = get_or c.args.line.now 0 0 in
-    bare_asked _ _ _ c.bare-then-letter-eq115.ensures (rw (ne_eqb letter 0x63 c.if-letter-eq99.false, ne_eqb letter 0x67 c.if-letter-eq103.false, ne_eqb letter 0x77 c.if-letter-eq119.false, ne_eqb letter 0x72 c.if-letter-eq114.false, ne_eqb letter 0x66 c.if-letter-eq102.false, eq-eqb letter 0x73 c.if-letter-eq115.true) c.parse_scrub.ensures)
-
-pub returns : goal.returns
-unfolding by_letter
-returns c =
-    let letter = get_or c.args.line.now 0 0 in
-    rw (ne_eqb letter 0x63 c.if-letter-eq99.false, ne_eqb letter 0x67 c.if-letter-eq103.false, ne_eqb letter 0x77 c.if-letter-eq119.false, ne_eqb letter 0x72 c.if-letter-eq114.false, ne_eqb letter 0x66 c.if-letter-eq102.false, ne_eqb letter 0x73 c.if-letter-eq115.false) c.malformed.ensures
+returns-in-102 c =
+    let x = c.args.rest.now in
+    let m : c.map-in-102.result ≡ option_map (λ p. request.Flip p.0 p.1) c.address_and_number-in-102.result = search rules in
+    rw (c.in-102.is, numbered (λ a n. memory (flip a n)) x, flip_of (address_and_number x), ← c.address_and_number-in-102.ensures) m

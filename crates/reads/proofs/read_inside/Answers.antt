@@ -4,7 +4,6 @@ use native.Mathlib.Omega.{arith}
 use lib.ListN.{length}
 use Rattle.calls.specs.State.{lent_state}
 use Rattle.calls.specs.Calls.{read_in}
-use Rattle.calls.specs.CodeOutcomes.{kind_by}
 use Rattle.calls.proofs.SplitLaws.{inside_fits}
 use Rattle.address_map.specs.CodeRoute.{target_of}
 use Rattle.access.proofs.ReadLaws.{fetched_read}
@@ -17,7 +16,7 @@ returns-then-not-is_allowed c =
     let cells = c.args.cells.now in
     let k = c.args.k in
     let x = read_in c.args.address (length c.args.buffer.now) in
-    nine_left (lent_state c.args.registers.now cells) _ (one_judged cells k k x x) (sym c.is_allowed.ensures ∙ c.if-not-is_allowed.true) c.refuse.result c.args.buffer.now c.refuse.ensures
+    nine_left (lent_state c.args.registers.now cells) _ (one_judged cells k k x x) (sym c.is_allowed.ensures ∙ c.if-not-is_allowed.true) c.args.buffer.now
 
 pub returns : goal.returns
 returns c =
@@ -28,7 +27,7 @@ returns c =
     let x = read_in a n in
     let st = lent_state c.args.registers.now cells in
     let allowed = sym c.is_allowed.ensures ∙ c.if-not-is_allowed.false in
-    let lent = lent_target cells (length cells) refl (omega arith) k k refl allowed in
-    let does = fetched_read st a n (kind_by c.fetch-a.result.outcome) _ _ (inside_fits a n c.requires) (target_of k) (rw lent at c.fetch-a.ensures) in
-    one_left st _ (target_of k) x (one_judged cells k k x x) allowed does c.one.result c.args.buffer.now _ c.one.ensures c.kind_of-kind.ensures
+    let lent = lent_target cells (length cells) refl k k refl allowed in
+    let does = fetched_read st a n c.fetch-found.result.kind _ _ (inside_fits a n c.requires) (target_of k) (rw lent at c.fetch-found.ensures) in
+    one_left st _ (target_of k) x (one_judged cells k k x x) allowed does _ c.args.buffer.now _ c.of.ensures refl
     (rw c.requires at c.copy_out.ensures)

@@ -2,6 +2,7 @@
 use mathlib.Core.Path.{refl, ap}
 use mathlib.Core.List.{[]}
 use native.Mathlib.Omega.{arith}
+use Rattle.std.proofs.Common.{rules}
 use lib.ListN.{length, take, drop}
 use Rattle.calls.specs.State.{lent_state}
 use Rattle.calls.specs.Calls.{write_in, room, next_doubleword}
@@ -25,7 +26,7 @@ returns-then-not-is_allowed c =
     let x = write_in a (take (room a) bs) in
     let y = write_in (next_doubleword a) (drop (room a) bs) in
     nine_left (lent_state c.args.registers.now cells) _ (two_judged cells k l x y)
-    (rw (c.is_allowed.ensures, c.is_allowed-2.ensures) at (c.if-not-is_allowed.true)) c.refuse.result [] c.refuse.ensures
+    (rw (c.is_allowed.ensures, c.is_allowed-2.ensures) at (c.if-not-is_allowed.true)) []
 
 pub overflow_mul-rest : goal.overflow_mul-rest
 overflow_mul-rest c =
@@ -59,5 +60,5 @@ returns c =
     let ends = c.room_at-n.ensures in
     let low-bytes = first_bytes v bs c.requires.1 c.gathered-value.ensures a c.requires.0 in
     let high-bytes = rest_bytes v bs c.requires.1 c.gathered-value.ensures a c.requires.0 in
-    two_left s₀ _ _ (target_of k) (target_of l) x y (two_judged cells k l x y) both (on_target_lem _ _ _ _ _ c.write_short.ensures (length cells) refl (omega arith) k refl here x (rw ends (ap (write_in a) low-bytes)))
-    (on_target_lem _ _ _ _ _ c.write_short-2.ensures (length cells) c.cells-1.given (omega arith) l refl there y (rw (at_next, ends) (ap (write_in (next_doubleword a)) high-bytes))) c.two.result [] [] c.two.ensures c.kind_of-low.ensures c.kind_of-high.ensures refl
+    two_left s₀ _ _ (target_of k) (target_of l) x y (two_judged cells k l x y) both (on_target_lem _ _ _ _ _ c.write_short-low.ensures (length cells) refl k refl here x (rw ends (ap (write_in a) low-bytes)))
+    (on_target_lem _ _ _ _ _ c.write_short-high.ensures (length cells) (search rules) l refl there y (rw (at_next, ends) (ap (write_in (next_doubleword a)) high-bytes))) _ [] [] c.of.ensures refl refl refl

@@ -1,7 +1,9 @@
 -- A split is handed on with its route; what stays inside its doubleword is refused early, or carried out on the cell of the route.
-use mathlib.Core.Path.{refl, sym, ap, ◌∙◌}
+use mathlib.Core.Path.{◌≡◌, refl, sym, ap, ◌∙◌}
 use mathlib.Core.List.{[], ◌∷◌}
 use lib.ListN.{length}
+use Rattle.std.proofs.Common.{rules}
+use Rattle.std.specs.Prelude.{Err}
 use Rattle.registers.specs.Record.{record_of}
 use Rattle.banks.specs.Setup.{setup_of}
 use Rattle.calls.specs.State.{lent_state}
@@ -25,22 +27,24 @@ pub returns-then-crosses_end : goal.returns-then-crosses_end
 returns-then-crosses_end c =
     c.write_split.ensures
 
-pub returns-in-Refused : goal.returns-in-Refused
-returns-in-Refused c =
+pub returns-in_err-admit : goal.returns-in_err-admit
+returns-in_err-admit c =
     let r = record_of c.args.registers.now in
     let a = c.args.address in
     let bs = c.args.bytes.now in
     let leads = route_leads r a _ c.route-to.ensures in
-    refused_left (lent_state c.args.registers.now c.args.cells.now) (write a bs) [] c.refuse.result _
-    (write_early (setup_of r) a bs ∙ refused_early c.route-to.result (setup_of r) a leads c.admit-verdict.result _ (rw c.judge_count.ensures at c.admit-verdict.ensures) _ c.in-Refused.is) c.refuse.ensures
+    let is : c.from_residual.result ≡ Err c.in_err-admit.field-0.0 = search rules in
+    rw is
+    (refused_left (lent_state c.args.registers.now c.args.cells.now) (write a bs) [] _
+    (write_early (setup_of r) a bs ∙ refused_early c.route-to.result (setup_of r) a leads c.admit.result _ (rw c.judge_count.ensures at c.admit.ensures) _ c.in_err-admit.was))
 
-pub returns-in-Accepted : goal.returns-in-Accepted
-returns-in-Accepted c =
+pub returns : goal.returns
+returns c =
     let r = record_of c.args.registers.now in
     let a = c.args.address in
     let bs = c.args.bytes.now in
     let leads = route_leads r a _ c.route-to.ensures in
-    let free = accepted_early c.route-to.result (setup_of r) a leads c.admit-verdict.result _ (rw c.judge_count.ensures at c.admit-verdict.ensures) c.in-Accepted.is in
+    let free = accepted_early c.route-to.result (setup_of r) a leads c.admit.result _ (rw c.judge_count.ensures at c.admit.ensures) c.in_ok-admit.was in
     let inside = inside_fits a (length bs) (sym c.crosses_end.ensures ∙ c.if-crosses_end.false) in
     let x = write_in a bs in
     c.write_inside.ensures

@@ -17,7 +17,7 @@ returns-then-not-is_allowed c =
     let cells = c.args.cells.now in
     let k = c.args.k in
     let x = write_in c.args.address c.args.bytes.now in
-    nine_left (lent_state c.args.registers.now cells) _ (one_judged cells k k x x) (sym c.is_allowed.ensures ∙ c.if-not-is_allowed.true) c.refuse.result [] c.refuse.ensures
+    nine_left (lent_state c.args.registers.now cells) _ (one_judged cells k k x x) (sym c.is_allowed.ensures ∙ c.if-not-is_allowed.true) []
 
 pub returns-then-bytes-eq8 : goal.returns-then-bytes-eq8
 returns-then-bytes-eq8 c =
@@ -28,7 +28,7 @@ returns-then-bytes-eq8 c =
     let x = write_in a bs in
     let allowed = sym c.is_allowed.ensures ∙ c.if-not-is_allowed.false in
     let whole = full_bytes c.gathered-value.result bs (omega (arith, inside_fits a (length bs) c.requires)) c.gathered-value.ensures c.if-bytes-eq8.true in
-    one_left (lent_state c.args.registers.now cells) _ (target_of k) x (one_judged cells k k x x) allowed (on_target_lem _ _ _ _ _ c.write_full.ensures (length cells) refl (omega arith) k refl allowed x (ap (write_in a) whole)) c.one.result [] [] c.one.ensures c.kind_of.ensures refl
+    one_left (lent_state c.args.registers.now cells) _ (target_of k) x (one_judged cells k k x x) allowed (on_target_lem _ _ _ _ _ c.write_full.ensures (length cells) refl k refl allowed x (ap (write_in a) whole)) _ [] [] c.of.ensures refl refl
 
 pub returns : goal.returns
 returns c =
@@ -39,4 +39,4 @@ returns c =
     let x = write_in a bs in
     let allowed = sym c.is_allowed.ensures ∙ c.if-not-is_allowed.false in
     let short = short_bytes_lem c.gathered-value.result bs (omega (arith, inside_fits a (length bs) c.requires)) c.gathered-value.ensures a c.requires c.if-bytes-eq8.false in
-    one_left (lent_state c.args.registers.now cells) _ (target_of k) x (one_judged cells k k x x) allowed (on_target_lem _ _ _ _ _ c.write_short.ensures (length cells) refl (omega arith) k refl allowed x (ap (write_in a) short)) c.one-2.result [] [] c.one-2.ensures c.kind_of-2.ensures refl
+    one_left (lent_state c.args.registers.now cells) _ (target_of k) x (one_judged cells k k x x) allowed (on_target_lem _ _ _ _ _ c.write_short-kind.ensures (length cells) refl k refl allowed x (ap (write_in a) short)) _ [] [] c.of-2.ensures refl refl

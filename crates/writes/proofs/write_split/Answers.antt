@@ -2,6 +2,8 @@
 use Prim.Native.Nat.{◌%◌, ◌^◌}
 use mathlib.Core.Path.{◌≡◌, refl, ap, ◌∙◌}
 use mathlib.Core.List.{[], ◌∷◌}
+use Rattle.std.proofs.Common.{rules}
+use Rattle.std.specs.Prelude.{Err}
 use native.Mathlib.Omega.{arith}
 use lib.ListN.{length, take, drop}
 use Rattle.registers.specs.Record.{record_of}
@@ -21,26 +23,28 @@ write_across-requires c =
     let bs = c.args.bytes.now in
     let r = record_of c.args.registers.now in
     let s = setup_of r in
-    let free = accepted_early c.args.to s a (route_leads r a c.args.to c.requires.1) c.admit-verdict.result _ (rw c.judge_count.ensures at c.admit-verdict.ensures) c.in-Accepted.is in
+    let free = accepted_early c.args.to s a (route_leads r a c.args.to c.requires.1) c.admit.result _ (rw c.judge_count.ensures at c.admit.ensures) c.in_ok-admit.was in
     (c.requires.0, (count_fits a (length bs) free.1).few, next_in_range a (length bs) c.requires.0 free.1)
 
-pub returns-in-Refused : goal.returns-in-Refused
-returns-in-Refused c =
+pub returns-in_err-admit : goal.returns-in_err-admit
+returns-in_err-admit c =
     let a = c.args.address in
     let bs = c.args.bytes.now in
     let r = record_of c.args.registers.now in
     let s = setup_of r in
-    refused_left (lent_state c.args.registers.now c.args.cells.now) (write a bs) [] c.refuse.result _
-    (write_early s a bs ∙ refused_early c.args.to s a (route_leads r a c.args.to c.requires.1) c.admit-verdict.result _ (rw c.judge_count.ensures at c.admit-verdict.ensures) _ c.in-Refused.is) c.refuse.ensures
+    let is : c.from_residual.result ≡ Err c.in_err-admit.field-0.0 = search rules in
+    rw is
+    (refused_left (lent_state c.args.registers.now c.args.cells.now) (write a bs) [] _
+    (write_early s a bs ∙ refused_early c.args.to s a (route_leads r a c.args.to c.requires.1) c.admit.result _ (rw c.judge_count.ensures at c.admit.ensures) _ c.in_err-admit.was))
 
-pub returns-in-Accepted : goal.returns-in-Accepted
-returns-in-Accepted c =
+pub returns : goal.returns
+returns c =
     let a = c.args.address in
     let bs = c.args.bytes.now in
     let r = record_of c.args.registers.now in
     let s = setup_of r in
     let leads = route_leads r a c.args.to c.requires.1 in
-    let free = accepted_early c.args.to s a leads c.admit-verdict.result _ (rw c.judge_count.ensures at c.admit-verdict.ensures) c.in-Accepted.is in
+    let free = accepted_early c.args.to s a leads c.admit.result _ (rw c.judge_count.ensures at c.admit.ensures) c.in_ok-admit.was in
     let in_range_lem = next_in_range a (length bs) c.requires.0 free.1 in
     let at_next : next_doubleword a % 2 ^ 32 ≡ next_doubleword a = next_exact a _ in_range_lem refl in
     let here = ap target_of c.cell_at-k.ensures ∙ leads.cell free.0 a refl in

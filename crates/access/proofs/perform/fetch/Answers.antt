@@ -1,49 +1,35 @@
 -- A clean cell is as it is stored and is not reported; without a cell, and by the syndrome, the laws of `FetchLaws`.
-use mathlib.Core.Path.{◌≡◌, sym, ◌∙◌}
-use mathlib.Core.Bool.{false}
-use native.Mathlib.Omega.{arith}
-use Rattle.basics.proofs.RangeLaws.{by_cases}
-use Rattle.ecc.specs.Lending.{is_lent}
-use Rattle.calls.specs.CodeOutcomes.{kind_by}
+use mathlib.Core.Path.{◌≡◌, ap}
+use lib.ListN.{get_or}
+use Rattle.std.proofs.Common.{bit_xor}
+use Rattle.ecc.specs.CheckCode.{syndrome_of, reading_of}
+use Rattle.ecc.specs.declared.Reading.{Reading}
+use Rattle.registers.specs.declared.Registers.{Registers}
+use Rattle.ecc.specs.Columns.{columns}
+use Rattle.registers.specs.Record.{record_of}
 use Rattle.calls.specs.State.{lent_state}
-use Rattle.access.specs.CodeAccess.{outcome_by}
-use Rattle.access.proofs.OutcomeLaws.{settled_outcome, settled_record, found_lent, found_syndrome}
 use Rattle.access.proofs.FetchLaws.{fetched_none, fetched_clean, fetched_by}
 use Rattle.access.proofs.perform.fetch.Goals as goal
 
-pub doubleword_at-requires : goal.doubleword_at-requires
-doubleword_at-requires c =
-    found_lent c.args.cells.now c.args.k (λ e. omega (arith, c.found_at-found.ensures.value, c.if-found-eq0.true))
+pub returns-in_default : goal.returns-in_default
+returns-in_default c =
+    fetched_none (lent_state c.args.registers.now c.args.cells.now) c.args.k c.args.address c.in_default.ensures _ (ap record_of c.report.ensures)
 
-pub returns-then-found-eq0 : goal.returns-then-found-eq0
-unfolding kind_by
-returns-then-found-eq0 c =
-    let cells = c.args.cells.now in
-    let k = c.args.k in
-    let lent = found_lent cells k (λ e. omega (arith, c.found_at-found.ensures.value, c.if-found-eq0.true)) in
-    fetched_clean (lent_state c.args.registers.now cells) k c.args.address lent _ c.doubleword_at.ensures
-    (sym (found_syndrome cells k lent) ∙ sym c.found_at-found.ensures.value ∙ c.if-found-eq0.true)
-
-pub returns-then-found-eq-NO_CELL_FOUND : goal.returns-then-found-eq-NO_CELL_FOUND
-unfolding kind_by outcome_by
-returns-then-found-eq-NO_CELL_FOUND c =
-    let cells = c.args.cells.now in
-    let k = c.args.k in
-    let out : is_lent cells k ≡ false = by_cases (is_lent cells k) (λ t. absurd (omega (arith, c.found_at-found.ensures.bound t, c.if-found-eq-NO_CELL_FOUND.true))) (λ t. t) in
-    fetched_none (lent_state c.args.registers.now cells) k c.args.address out _
-    (rw c.if-found-eq-NO_CELL_FOUND.true at (settled_record c.settle-outcome.ensures))
-
-pub doubleword_at-stored-requires : goal.doubleword_at-stored-requires
-doubleword_at-stored-requires c =
-    found_lent c.args.cells.now c.args.k (λ e. c.if-found-eq-NO_CELL_FOUND.false (c.found_at-found.ensures.value ∙ e))
+pub returns-then-syndrome-eq0 : goal.returns-then-syndrome-eq0
+unfolding syndrome_of
+returns-then-syndrome-eq0 c =
+    let found = c.in-Some.ensures in
+    rw found.1
+    (fetched_clean (lent_state c.args.registers.now c.args.cells.now) found.0 c.args.address found.2 _ (rw found.3 at c.doubleword-stored.ensures)
+    (rw (c.check.ensures, c.doubleword-stored.ensures, found.3) at c.if-syndrome-eq0.true))
 
 pub returns : goal.returns
+unfolding syndrome_of
 returns c =
-    let cells = c.args.cells.now in
-    let k = c.args.k in
-    let lent = found_lent cells k (λ e. c.if-found-eq-NO_CELL_FOUND.false (c.found_at-found.ensures.value ∙ e)) in
-    let outcome = settled_outcome c.settle-outcome.ensures in
-    rw outcome
-    (fetched_by (lent_state c.args.registers.now cells) k c.args.address lent _ _ c.found_at-found.result c.doubleword_at-stored.ensures
-    (c.found_at-found.ensures.value ∙ found_syndrome cells k lent) (c.found_at-found.ensures.bound lent)
-    (rw outcome at c.with_bit_flipped.ensures) _ (settled_record c.settle-outcome.ensures))
+    let found = c.in-Some.ensures in
+    let s = bit_xor c.check.result (get_or c.in-Some.cell.now 8 0) in
+    let means : c.settle-reading.result ≡ reading_of columns s = ap (λ (p : Reading × Registers). p.0) c.settle-reading.ensures in
+    rw (c.answer_of.ensures, means, found.1)
+    (fetched_by (lent_state c.args.registers.now c.args.cells.now) found.0 c.args.address found.2 _ _ s (rw found.3 at c.doubleword-stored.ensures)
+    (rw (c.check.ensures, c.doubleword-stored.ensures, found.3)) (rw means at c.righted.ensures) _
+    (ap (λ (p : Reading × Registers). p.1) c.settle-reading.ensures))

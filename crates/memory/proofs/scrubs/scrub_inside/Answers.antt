@@ -1,5 +1,5 @@
 -- Refused with 9, or one scrub.
-use mathlib.Core.Path.{refl, sym, ◌∙◌}
+use mathlib.Core.Path.{refl, sym, ap, ◌∙◌}
 use mathlib.Core.List.{[]}
 use native.Mathlib.Omega.{arith}
 use lib.ListN.{length}
@@ -15,7 +15,7 @@ returns-then-not-is_allowed c =
     let cells = c.args.cells.now in
     let k = c.args.k in
     let x = scrub_in c.args.address in
-    nine_left (lent_state c.args.registers.now cells) _ (one_judged cells k k x x) (sym c.is_allowed.ensures ∙ c.if-not-is_allowed.true) c.refuse.result [] c.refuse.ensures
+    nine_left (lent_state c.args.registers.now cells) _ (one_judged cells k k x x) (sym c.is_allowed.ensures ∙ c.if-not-is_allowed.true) []
 
 pub returns : goal.returns
 returns c =
@@ -23,4 +23,4 @@ returns c =
     let k = c.args.k in
     let x = scrub_in c.args.address in
     let allowed = sym c.is_allowed.ensures ∙ c.if-not-is_allowed.false in
-    one_left (lent_state c.args.registers.now cells) _ (target_of k) x (one_judged cells k k x x) allowed (on_target_lem _ _ _ _ _ c.scrub.ensures (length cells) refl (omega arith) k refl allowed x refl) c.one.result [] [] c.one.ensures c.kind_of.ensures refl
+    one_left (lent_state c.args.registers.now cells) _ (target_of k) x (one_judged cells k k x x) allowed (on_target_lem _ _ _ _ _ c.scrub.ensures (length cells) refl k refl allowed x refl) _ [] [] c.of.ensures refl refl

@@ -1,22 +1,22 @@
--- The address is the only field: a line of another length lacks it (`one_lacks`), and `scrub_is` has its eight digits in any other.
-use native.Mathlib.Omega.{arith}
-use mathlib.Core.Path.{sym, ◌∙◌}
+-- The address is the only field (`digits_alone`): a line of another length lacks it (`field_lacks`).
+use Rattle.std.proofs.Common.{rules, arith, ◌≡◌, ◌∙◌, sym, ap, None, Some}
+use lib.Seq.{take_all}
 use Rattle.calls.specs.Calls.{memory, scrub}
-use Rattle.parser.proofs.DigitLaws.{below_some, below_none}
-use Rattle.parser.proofs.FormatLaws.{scrub_is, one_lacks}
-use Prim.Native.Nat.{◌^◌}
+use Rattle.hex_digits.specs.Digits.{hex_from, hex_field}
+use Rattle.parser.proofs.DigitLaws.{field_is, field_lacks}
+use Rattle.parser.proofs.FormatLaws.{digits_alone}
 use Rattle.parser.proofs.memory_lines.parse_scrub.Goals as goal
 
-pub returns-then-n-ne10 : goal.returns-then-n-ne10
-returns-then-n-ne10 c =
-    sym (one_lacks c.args.line.now (λ a. memory (scrub a)) 8 c.if-n-ne10.true (omega arith))
-
-pub returns-then-address-gt4294967295 : goal.returns-then-address-gt4294967295
-returns-then-address-gt4294967295 c =
-    sym (scrub_is c.args.line.now (λ a. memory (scrub a)) c.if-n-ne10.false c.hex_address-address.result c.hex_address-address.ensures
-    ∙ rw (below_none (2 ^ 32) c.hex_address-address.result (omega arith)))
+pub returns-in_err-address : goal.returns-in_err-address
+returns-in_err-address c =
+    let x = c.args.rest.now in
+    let field : hex_field 8 x ≡ c.hex_address.result = field_is 8 x c.if-rest-ne8.false ∙ ap (hex_from 0) (sym (take_all 8 x (omega arith))) ∙ sym c.hex_address.ensures in
+    let address : c.hex_address.result ≡ None = search rules in
+    rw (digits_alone 8 (λ a. memory (scrub a)) x, field, address) (search rules)
 
 pub returns : goal.returns
 returns c =
-    sym (scrub_is c.args.line.now (λ a. memory (scrub a)) c.if-n-ne10.false c.hex_address-address.result c.hex_address-address.ensures
-    ∙ rw (below_some (2 ^ 32) c.hex_address-address.result (omega arith)))
+    let x = c.args.rest.now in
+    let field : hex_field 8 x ≡ c.hex_address.result = field_is 8 x c.if-rest-ne8.false ∙ ap (hex_from 0) (sym (take_all 8 x (omega arith))) ∙ sym c.hex_address.ensures in
+    let address : c.hex_address.result ≡ Some c.in_ok-address.address = search rules in
+    rw (digits_alone 8 (λ a. memory (scrub a)) x, field, address)

@@ -1,19 +1,18 @@
--- A line of another length lacks its field (`one_lacks`); of any other `register_read_is` has the offset, with a value (`below_some`) or none.
-use native.Mathlib.Omega.{arith}
-use mathlib.Core.Path.{sym, ◌∙◌}
+-- The offset is the only field (`digits_alone`): a line of another length lacks it (`field_lacks`).
+use Rattle.std.proofs.Common.{rules, arith, ◌≡◌, None, Some}
 use Rattle.calls.specs.Calls.{read_register}
-use Rattle.parser.proofs.DigitLaws.{below_some, below_none}
-use Rattle.parser.proofs.FormatLaws.{register_read_is, one_lacks}
+use Rattle.parser.proofs.DigitLaws.{field_lacks, pair_is}
+use Rattle.parser.proofs.FormatLaws.{digits_alone}
 use Rattle.parser.proofs.register_lines.parse_register_read.Goals as goal
 
-pub returns-then-n-ne4 : goal.returns-then-n-ne4
-returns-then-n-ne4 c =
-    sym (one_lacks c.args.line.now read_register 2 c.if-n-ne4.true (omega arith))
-
-pub returns-then-offset-gt255 : goal.returns-then-offset-gt255
-returns-then-offset-gt255 c =
-    sym (register_read_is c.args.line.now read_register c.if-n-ne4.false c.hex_pair-offset.result c.hex_pair-offset.ensures ∙ rw (below_none 256 c.hex_pair-offset.result (omega arith)))
+pub returns-in_err-offset : goal.returns-in_err-offset
+returns-in_err-offset c =
+    let x = c.args.rest.now in
+    let offset : c.hex_pair.result ≡ None = search rules in
+    rw (digits_alone 2 read_register x, pair_is x 0 (omega arith), ← c.hex_pair.ensures, offset) (search rules)
 
 pub returns : goal.returns
 returns c =
-    sym (register_read_is c.args.line.now read_register c.if-n-ne4.false c.hex_pair-offset.result c.hex_pair-offset.ensures ∙ rw (below_some 256 c.hex_pair-offset.result (omega arith)))
+    let x = c.args.rest.now in
+    let offset : c.hex_pair.result ≡ Some c.in_ok-offset.offset = search rules in
+    rw (digits_alone 2 read_register x, pair_is x 0 (omega arith), ← c.hex_pair.ensures, offset)

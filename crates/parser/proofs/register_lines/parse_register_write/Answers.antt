@@ -1,35 +1,32 @@
--- A line of another length or without its comma lacks a field (`two_lacking`, `two_unparted`); `register_write_is` has both fields of any other.
-use native.Mathlib.Omega.{arith}
-use mathlib.Core.Path.{sym, ◌∙◌}
-use lib.ListN.{drop, length-drop}
+-- A line of another length or without its comma lacks a field (`field_lacks`, `two_unparted`); any other has two pairs of digits (`two_pairs`).
+use Rattle.std.proofs.Common.{rules, arith, ◌≡◌, get_or, drop, length-drop, None, Some}
 use Rattle.calls.specs.Calls.{write_register}
 use Rattle.hex_digits.specs.Digits.{hex_field}
-use Rattle.parser.proofs.DigitLaws.{below_some, below_none, field_lacks}
+use Rattle.parser.proofs.DigitLaws.{field_lacks}
 use Rattle.parser.proofs.PlainLaws.{hex_field_plain}
-use Rattle.parser.proofs.FieldLaws.{two_unparted, two_lacking}
-use Rattle.parser.proofs.FormatLaws.{register_write_is}
+use Rattle.parser.proofs.FieldLaws.{two_lacking, two_unparted}
+use Rattle.parser.proofs.FormatLaws.{two_pairs}
 use Rattle.parser.proofs.register_lines.parse_register_write.Goals as goal
 
-pub returns-then-n-ne7 : goal.returns-then-n-ne7
-returns-then-n-ne7 c =
-    let l = c.args.line.now in
-    sym (two_lacking (hex_field 2) write_register (hex_field_plain 2) l 2 (field_lacks 2 (drop 5 l) (λ e. let f = simp length-drop at e in c.if-n-ne7.true (omega arith))))
+pub returns-in_err-offset : goal.returns-in_err-offset
+returns-in_err-offset c =
+    let x = c.args.rest.now in
+    let comma : get_or x 2 0 ≡ 0x2C = search rules in
+    let offset : c.hex_pair.result ≡ None = search rules in
+    rw (two_pairs x write_register (omega arith) comma, ← c.hex_pair.ensures, offset) (search rules)
 
-pub returns-then-comma-ne44 : goal.returns-then-comma-ne44
-returns-then-comma-ne44 c =
-    sym (two_unparted (hex_field 2) write_register (hex_field_plain 2) c.args.line.now 2 c.if-comma-ne44.true)
-
-pub returns-then-offset-gt255 : goal.returns-then-offset-gt255
-returns-then-offset-gt255 c =
-    sym (register_write_is c.args.line.now write_register c.if-n-ne7.false c.if-comma-ne44.false c.hex_pair-offset.result c.hex_pair-value.result c.hex_pair-offset.ensures c.hex_pair-value.ensures
-    ∙ rw (below_none 256 c.hex_pair-offset.result (omega arith)))
-
-pub returns-then-value-gt255 : goal.returns-then-value-gt255
-returns-then-value-gt255 c =
-    sym (register_write_is c.args.line.now write_register c.if-n-ne7.false c.if-comma-ne44.false c.hex_pair-offset.result c.hex_pair-value.result c.hex_pair-offset.ensures c.hex_pair-value.ensures
-    ∙ rw (below_some 256 c.hex_pair-offset.result (omega arith), below_none 256 c.hex_pair-value.result (omega arith)))
+pub returns-in_err-value : goal.returns-in_err-value
+returns-in_err-value c =
+    let x = c.args.rest.now in
+    let comma : get_or x 2 0 ≡ 0x2C = search rules in
+    let offset : c.hex_pair.result ≡ Some c.in_ok-offset.offset = search rules in
+    let value : c.hex_pair-2.result ≡ None = search rules in
+    rw (two_pairs x write_register (omega arith) comma, ← c.hex_pair.ensures, offset, ← c.hex_pair-2.ensures, value) (search rules)
 
 pub returns : goal.returns
 returns c =
-    sym (register_write_is c.args.line.now write_register c.if-n-ne7.false c.if-comma-ne44.false c.hex_pair-offset.result c.hex_pair-value.result c.hex_pair-offset.ensures c.hex_pair-value.ensures
-    ∙ rw (below_some 256 c.hex_pair-offset.result (omega arith), below_some 256 c.hex_pair-value.result (omega arith)))
+    let x = c.args.rest.now in
+    let comma : get_or x 2 0 ≡ 0x2C = search rules in
+    let offset : c.hex_pair.result ≡ Some c.in_ok-offset.offset = search rules in
+    let value : c.hex_pair-2.result ≡ Some c.in_ok-value.value = search rules in
+    rw (two_pairs x write_register (omega arith) comma, ← c.hex_pair.ensures, offset, ← c.hex_pair-2.ensures, value)

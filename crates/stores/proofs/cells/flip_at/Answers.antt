@@ -1,6 +1,5 @@
 -- The part from 9 k on is cell k (`lent_fits`), in which `invert` inverts the bit; the bytes after it stay as they were (`Post-is`).
 use native.Mathlib.Omega.{arith}
-use Rattle.ecc.proofs.CellLaws.{lent_fits}
 use mathlib.Core.Path.{◌≡◌, ap, ap₂, ◌∙◌}
 use mathlib.Core.List.{List, ◌++◌}
 use Prim.Native.Nat.{ℕ, ◌+◌, ◌-◌, ◌*◌}
@@ -9,18 +8,6 @@ use borrow.Rule.Slice.PartMut.{Post-is}
 use Rattle.ecc.specs.CheckCode.{flip_bit}
 use Rattle.ecc.specs.Lending.{cell_at, put_cell}
 use Rattle.stores.proofs.cells.flip_at.Goals as goal
-
-pub overflow_mul-a : goal.overflow_mul-a
-overflow_mul-a c =
-    omega (arith, lent_fits c.args.cells.now c.args.k c.requires.0)
-
-pub overflow_add-a : goal.overflow_add-a
-overflow_add-a c =
-    omega (arith, lent_fits c.args.cells.now c.args.k c.requires.0)
-
-pub slice_bounds-invert-end : goal.slice_bounds-invert-end
-slice_bounds-invert-end c =
-    omega (arith, lent_fits c.args.cells.now c.args.k c.requires.0)
 
 pub returns : goal.returns
 unfolding put_cell cell_at

@@ -1,7 +1,0 @@
--- The result of a read, by `result_of_lem`: what `read_in_place` leaves in record and buffer, and its answer as `give_answer` puts it.
-use Rattle.mpc106.proofs.AnswerLaws.{result_of_lem}
-use Rattle.mpc106.proofs.mpc106_v4_read.Goals as goal
-
-pub returns : goal.returns
-returns c =
-    let d = c.read_in_place-given in result_of_lem c.args.answer.now d.result d.ensures c.give_answer.ensures
