@@ -17,12 +17,13 @@ use Rattle.refusals.specs.Paper.{Declined, ◌else◌, paper_verdict, paper_outc
 use Rattle.registers.specs.declared.Registers.{Registers}
 use Rattle.refusals.specs.declared.Refusal.{Refusal}
 use Rattle.register_calls.specs.Calls.{read_at, write_at}
-use Rattle.calls.specs.Calls.{MemoryCall, read, CallAnswer, memory, read_register, write_register}
+use Rattle.calls.specs.Calls.{MemoryCall, read, flip, CallAnswer, memory, read_register, write_register}
 use Rattle.calls.specs.Spans.{by_call, by_arguments, by_count}
 use Rattle.calls.specs.State.{State, state}
 use Rattle.calls.specs.Answers.{Answer, Effect, paper_answer, leaves, effect_of}
 use Rattle.banks.specs.Judge.{not_ready}
 use Rattle.machine.specs.Calls.{setup, refusal, performed, memory_call, called}
+use Rattle.machine.proofs.FlipLaws.{flip_call_keeps_registers}
 use Rattle.parser.specs.declared.request.Request.{Request}
 use Rattle.parser.specs.CodeParsed.{parsed_as, meant}
 use Rattle.parser.specs.Format.{parse}
@@ -51,6 +52,13 @@ pub memory_line : (cols : List ℕ) (st : State) (c : MemoryCall) (y : Answer) (
 unfolding call_of
 memory_line cols st c y st' buffer lent t e g =
     ap (λ (u : List ℕ). (u, st')) (sym g) ∙ ap (printed_effect c) e ∙ any_buffer cols st c lent []
+
+-- a flip that answered y, whose record need not be taken back
+pub flip_line : (cols : List ℕ) (st : State) (a b : ℕ) (y : Answer) (r : Registers) (cells t : List ℕ) → leaves y (state r cells) [] ≡ called cols st (flip a b) []
+    → call_text (flip a b) (paper_answer y) [] ≡ t → (t, state st.registers cells) ≡ call_of cols st (memory (flip a b))
+flip_line cols st a b y r cells t e g =
+    let same : r ≡ st.registers = ap (λ (x : Effect). x.state.registers) e ∙ flip_call_keeps_registers cols st a b in
+    memory_line cols st (flip a b) y (state st.registers cells) [] [] t (rw same at e) g
 
 -- ---- a read
 

@@ -19,6 +19,14 @@ use registers::Registers;
 // The start of an output, with room for the longest line.
 type Room = [u8; LONGEST_OUTPUT_LINE];
 
+// FORM-1: memory calls take and return the record by value; what comes back is kept.
+fn keep(registers: &mut [u8; 256], after: Registers)
+    ensures { registers.new ≡ after.bytes }
+{
+    let bytes = after.bytes;
+    *registers = bytes;
+}
+
 // `c`
 fn register_write_line(registers: &mut [u8; 256], offset: u8, value: u8, out: &mut Room) -> usize
     ensures { (cells : List ℕ) → executed_in_place result registers.new cells out.new ≡ printed_into out.old (call_of columns (lent_state registers.old cells) (write_register offset value)) }
@@ -47,11 +55,12 @@ fn write_line(
 ) -> usize
     ensures { executed_in_place result registers.new cells.new out.new ≡ printed_into out.old (call_of columns (lent_state registers.old cells.old) (memory (write address bytes.now))) }
 {
-    let answer = memory::write_in_place(registers, cells, address, bytes);
-    print::kinds(b'w', answer, out)
+    let called = memory_calls::write(Registers { bytes: *registers }, cells, address, bytes);
+    keep(registers, called.registers);
+    print::kinds(b'w', called.answer, out)
 }
 
-// `f`, which touches no register.
+// `f`, which touches no register: the record that comes back need not be kept.
 fn flip_line(
     registers: &[u8; 256],
     cells: &mut [u8],
@@ -61,16 +70,17 @@ fn flip_line(
 ) -> usize
     ensures { executed_in_place result registers.now cells.new out.new ≡ printed_into out.old (call_of columns (lent_state registers.now cells.old) (memory (flip address bit))) }
 {
-    let answer = memory::flip_in_place(registers, cells, address, bit as u32);
-    print::verdict_line(b'f', answer.and(Ok(())), out)
+    let called = memory_calls::flip(Registers { bytes: *registers }, cells, address, bit as u32);
+    print::verdict_line(b'f', called.answer.and(Ok(())), out)
 }
 
 // `s`
 fn scrub_line(registers: &mut [u8; 256], cells: &mut [u8], address: u32, out: &mut Room) -> usize
     ensures { executed_in_place result registers.new cells.new out.new ≡ printed_into out.old (call_of columns (lent_state registers.old cells.old) (memory (scrub address))) }
 {
-    let answer = memory::scrub_in_place(registers, cells, address);
-    print::kinds(b's', answer, out)
+    let called = memory_calls::scrub(Registers { bytes: *registers }, cells, address);
+    keep(registers, called.registers);
+    print::kinds(b's', called.answer, out)
 }
 
 // The length of the buffer for a read: one of more than 8 bytes is refused in the same way as one of 9.
@@ -92,8 +102,14 @@ fn read_line(
 {
     let mut buffer = [0u8; 9];
     let n = buffer_length(count);
-    let answer = memory::read_in_place(registers, cells, address, &mut buffer[..n]);
-    print::read(answer, &buffer[..n], out)
+    let called = memory_calls::read(
+        Registers { bytes: *registers },
+        cells,
+        address,
+        &mut buffer[..n],
+    );
+    keep(registers, called.registers);
+    print::read(called.answer, &buffer[..n], out)
 }
 
 // LINE-11: a line that asks for nothing.

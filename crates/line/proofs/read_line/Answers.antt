@@ -21,12 +21,13 @@ pub returns : goal.returns
 returns c =
     let a = c.args in
     let n = c.buffer_length-n in
-    let m = c.read_in_place-answer in
+    let m = c.read-called in
     let p = c.read in
     let b = m.new.buffer in
-    let st = state (record_of m.new.registers) a.cells.now in
+    let st = state m.result.registers a.cells.now in
     let part = length-take-le n.result zeros (buffer_fits a.count n.result n.ensures) in
     let size : length b ≡ n.result = omega (arith, part) in
-    line_printed p.result a.out.now p.new.out _ st _ (omega arith) p.ensures
-    (ap (λ (l : List ℕ). (read_line m.result (take 8 l), st)) (take_at b _ n.result size)
-    ∙ read_line_lem columns (state (record_of a.registers.now) a.cells.now) a.address a.count n.result m.result st b (take n.result zeros) n.ensures part size m.ensures)
+    rw c.keep.ensures
+    (line_printed p.result a.out.now p.new.out _ st _ (omega arith) p.ensures
+    (ap (λ (l : List ℕ). (read_line m.result.answer (take 8 l), st)) (take_at b _ n.result size)
+    ∙ read_line_lem columns (state (record_of a.registers.now) a.cells.now) a.address a.count n.result m.result.answer st b (take n.result zeros) n.ensures part size m.ensures))

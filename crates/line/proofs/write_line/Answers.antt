@@ -12,8 +12,9 @@ use Rattle.line.proofs.write_line.Goals as goal
 pub returns : goal.returns
 returns c =
     let a = c.args in
-    let m = c.write_in_place-answer in
+    let m = c.write-called in
     let p = c.kinds in
-    let st = state (record_of m.new.registers) m.new.cells in
-    line_printed p.result a.out.now p.new.out _ st _ (omega arith) p.ensures
-    (memory_line columns (state (record_of a.registers.now) a.cells.now) (write a.address a.bytes.now) m.result st [] [] _ m.ensures (write_text [] m.result a.address a.bytes.now))
+    let st = state m.result.registers m.new.cells in
+    rw c.keep.ensures
+    (line_printed p.result a.out.now p.new.out _ st _ (omega arith) p.ensures
+    (memory_line columns (state (record_of a.registers.now) a.cells.now) (write a.address a.bytes.now) m.result.answer st [] [] _ m.ensures (write_text [] m.result.answer a.address a.bytes.now)))
