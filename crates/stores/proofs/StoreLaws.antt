@@ -57,22 +57,14 @@ has_cell Stored = true
 has_cell NoBank = false
 has_cell Flipped = true
 
--- what is right was read from a cell, and so was what is corrected
-pub right_has_cell : (kind : Kind) → is_right kind ≡ true → has_cell kind ≡ true
-right_has_cell Clean e = refl
-right_has_cell (Corrected b) e = refl
-right_has_cell Uncorrectable e = refl
-right_has_cell Stored e = refl
-right_has_cell NoBank e = e
-right_has_cell Flipped e = refl
-
-pub corrected_has_cell : (kind : Kind) → is_corrected kind ≡ true → has_cell kind ≡ true
-corrected_has_cell Clean e = refl
-corrected_has_cell (Corrected b) e = refl
-corrected_has_cell Uncorrectable e = refl
-corrected_has_cell Stored e = refl
-corrected_has_cell NoBank e = e
-corrected_has_cell Flipped e = refl
+-- what passes a test that "no bank" does not pass was read from a cell
+pub test_has_cell : (test : Kind → Bool) → test NoBank ≡ false → (kind : Kind) → test kind ≡ true → has_cell kind ≡ true
+test_has_cell test q Clean e = refl
+test_has_cell test q (Corrected b) e = refl
+test_has_cell test q Uncorrectable e = refl
+test_has_cell test q Stored e = refl
+test_has_cell test q NoBank e = contra e q
+test_has_cell test q Flipped e = refl
 
 -- a cell that is found is lent
 pub found_lent : (cells : List ℕ) (o : code.Option ℕ) (k : ℕ) → lent_cell cells o ≡ some k → is_lent cells k ≡ true

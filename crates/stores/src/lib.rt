@@ -34,6 +34,7 @@ fn lent(cells: &[u8], k: Option<usize>) -> Option<usize>
 }
 
 // MEM-4: a write of eight bytes does not look at the old cell.
+#[inline(always)]
 pub fn write_full(
     registers: &mut [u8; 256],
     cells: &mut [u8],
@@ -66,6 +67,7 @@ fn is_corrected(kind: Kind) -> bool
 }
 
 // MEM-5, MEM-6: a shorter write corrects, merges and stores, unless the cell is uncorrectable. Its bytes are the lowest `count` of the value.
+#[inline(always)]
 pub fn write_short(
     registers: &mut [u8; 256],
     cells: &mut [u8],

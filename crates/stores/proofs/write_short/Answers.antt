@@ -1,5 +1,5 @@
 -- What was fetched is merged and stored again if it is right (`fetched_write`); the bytes are fewer than eight (`short_length`).
-use mathlib.Core.Path.{sym, ap, ◌∙◌}
+use mathlib.Core.Path.{refl, sym, ap, ◌∙◌}
 use mathlib.Core.List.{List}
 use Rattle.std.specs.Prelude.{Some}
 use Prim.Native.Nat.{ℕ}
@@ -8,14 +8,14 @@ use Rattle.ecc.specs.Cell.{encode}
 use Rattle.ecc.specs.Lending.{put_cell}
 use Rattle.calls.specs.Calls.{room}
 use Rattle.calls.specs.State.{lent_state}
-use Rattle.access.specs.CodeAccess.{lent_cell, short_bytes}
-use Rattle.stores.proofs.StoreLaws.{right_has_cell, cell_lent, stored_again, kept_as_it_was, fetched_write, short_length}
+use Rattle.access.specs.CodeAccess.{lent_cell, short_bytes, is_right}
+use Rattle.stores.proofs.StoreLaws.{test_has_cell, cell_lent, stored_again, kept_as_it_was, fetched_write, short_length}
 use Rattle.stores.proofs.write_short.Goals as goal
 
 pub store-requires : goal.store-requires
 store-requires c =
     cell_lent c.args.cells.now c.in-Some.k (lent_state c.args.registers.now c.args.cells.now) c.args.address _ _ _ (rw c.in-Some.is at c.fetch-old.ensures)
-    (right_has_cell _ (sym c.is_right.ensures ∙ c.if-is_right.true))
+    (test_has_cell is_right refl _ (sym c.is_right.ensures ∙ c.if-is_right.true))
 
 pub returns-then-is_right : goal.returns-then-is_right
 returns-then-is_right c =
@@ -25,7 +25,7 @@ returns-then-is_right c =
     let st = lent_state c.args.registers.now cells in
     let right = sym c.is_right.ensures ∙ c.if-is_right.true in
     let fetched = rw c.in-Some.is at c.fetch-old.ensures in
-    let lent = cell_lent cells k st a _ _ _ fetched (right_has_cell _ right) in
+    let lent = cell_lent cells k st a _ _ _ fetched (test_has_cell is_right refl _ right) in
     rw c.in-Some.is
     (fetched_write st a _ _ _ (lent_cell cells (Some k)) fetched (short_bytes a c.args.count c.args.value) _
     (short_length (room a) c.args.count c.args.value)
