@@ -3,15 +3,12 @@ use mathlib.Core.Path.{◌≡◌, sym, ap, ◌∙◌, subst}
 use mathlib.Core.List.{List, [], ◌∷◌}
 use Prim.Native.Nat.{ℕ, zero, suc, ◌+◌, ◌*◌, ◌/◌, ◌^◌, ◌<◌, ◌≤◌}
 use native.Mathlib.Omega.{arith}
-use lib.ListN.{length, get_or, take, drop, length-drop}
-use lib.Seq.{length-take-le}
+use lib.ListN.{length, get_or, take, drop}
+use lib.Seq.{take_all}
 use borrow.Author.Rules.{rules}
-use lib.Dec.{ltb}
-use borrow.Author.Tests.{le-leb, lt-leb, ltb-true, ltb-false}
-use Rattle.basics.proofs.RangeLaws.{by_cases}
-use Rattle.std.specs.Int.{w64, to_le_bytes, from_le_bytes}
-use Rattle.std.proofs.lemmas.Nat.{le_bytes_8}
-use Rattle.std.proofs.lemmas.List.{get_or-take, get_or-drop, get_or_past}
+use borrow.Author.Tests.{le-leb, lt-leb}
+use Rattle.basics.proofs.ListLaws.{from_take}
+use Rattle.std.specs.Int.{w64, to_le_bytes}
 use Rattle.eight_bytes.specs.CodeNumber.{bytes_in, eight_at}
 
 abbrev pub Bytes : List ℕ → Type 0
@@ -51,15 +48,10 @@ pub eight_some : (l : List ℕ) (i : ℕ) → i + 8 ≤ length l → eight_at l 
 unfolding eight_at
 eight_some l i h = rw (le-leb (i + 8) (length l) h)
 
--- as a number
-pub eight_number : (l : List ℕ) (i n : ℕ) → i + 8 ≤ length l → ((k : ℕ) → get_or l k 0 < 256) → n ≡ from_le_bytes w64 (take 8 (drop i l)) → bytes_in 8 n ≡ eight_at l i
-eight_number l i n h small e =
-    let part : List ℕ = take 8 (drop i l) in
-    let whole : length part ≡ 8 = omega (arith, length-take-le 8 (drop i l), length-drop i l) in
-    let each : (k : ℕ) → get_or part k 0 < 256 = λ k. by_cases (ltb k 8)
-    (λ t. rw (get_or-take 8 (drop i l) k 0 (ltb-true k 8 t), get_or-drop i l k 0) (small (i + k)))
-    (λ t. rw (get_or_past part k 0 (omega (arith, ltb-false k 8 t))) (omega arith)) in
-    written_low_first n ∙ le_bytes_8 part n whole each e ∙ sym (eight_some l i h)
+-- read one by one
+pub eight_read : (l : List ℕ) → length l ≡ 8
+    → get_or l 0 0 ∷ get_or l 1 0 ∷ get_or l 2 0 ∷ get_or l 3 0 ∷ get_or l 4 0 ∷ get_or l 5 0 ∷ get_or l 6 0 ∷ get_or l 7 0 ∷ [] ≡ l
+eight_read l e = from_take l 0 8 (omega arith) ∙ take_all 8 l (omega arith)
 
 -- a number that has these bytes
 pub eight_are : (l : List ℕ) (x : ℕ) → x < 2 ^ 64 → bytes_in 8 x ≡ l → Bytes l × (x ≡ number l)

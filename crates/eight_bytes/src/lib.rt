@@ -22,7 +22,7 @@ pub fn number_at(bytes: &[u8], at: usize) -> u64
     ensures { bytes_in 8 result ≡ eight_at bytes.now at }
 {
     match eight_from(bytes, at) {
-        Some(eight) => u64::from_le_bytes(*eight),
+        Some(&[a, b, c, d, e, f, g, h]) => number_of(a, b, c, d, e, f, g, h),
         None => 0,
     }
 }
