@@ -1,16 +1,15 @@
 -- Laws of printed bytes.
-use mathlib.Core.Bool.{cond}
-use Rattle.std.proofs.lemmas.List.{take_all, take-append-le}
+use Rattle.std.proofs.lemmas.List.{take_all, take-append-le, take_min}
 use Rattle.std.specs.Prelude.{Ok, Err}
 use Rattle.std.specs.Result.{result_and}
 use mathlib.Core.Path.{◌≡◌, refl, sym, ap, ◌∙◌}
 use mathlib.Core.List.{List, [], ◌∷◌, ◌++◌, append_assoc, append-nil}
-use Prim.Native.Nat.{ℕ, zero, suc, ◌+◌, ◌*◌, ◌/◌, ◌%◌, ◌<◌, ◌≤◌}
+use Prim.Native.Nat.{ℕ, zero, suc, min, ◌+◌, ◌*◌, ◌-◌, ◌/◌, ◌%◌, ◌<◌, ◌≤◌}
 use native.Mathlib.Omega.{arith}
 use lib.Dec.{ltb}
-use lib.ListN.{length-take, length, get_or, take, length-append}
-use lib.Seq.{take-suc}
-use borrow.Author.Tests.{le-leb, ltb-true, ltb-false}
+use lib.ListN.{length-take, length, get_or, take, set, length-set, length-append}
+use lib.Seq.{take-suc, take-suc-set, take-append-add}
+use borrow.Author.Tests.{le-leb}
 use Rattle.basics.proofs.RangeLaws.{by_cases}
 use Rattle.refusals.specs.declared.Refusal.TheVariants.{MalformedLine}
 use Rattle.refusals.specs.Paper.{Declined, paper_verdict}
@@ -52,7 +51,26 @@ pub cut_few : (text : List ℕ) → length (cut text) ≤ longest_output_line
 unfolding cut
 cut_few text = simp length-take (omega arith)
 
+-- as much of a text as there is room for
+pub cut_room : (text more : List ℕ) → length text ≤ longest_output_line → text ++ take (min (longest_output_line - length text) (length more)) more ≡ cut (text ++ more)
+unfolding cut
+cut_room text more h =
+    let room = longest_output_line - length text in
+    let whole : length text + room ≡ longest_output_line = omega arith in
+    ap (text ++◌) (take_min room more) ∙ sym (take-append-add text more room) ∙ ap (λ (n : ℕ). take n (text ++ more)) whole
+
 -- ---- the pieces
+
+-- two more digits, after those of i bytes
+pub two_more : (digits : List ℕ) (i x y : ℕ) → 2 * i + 1 < length digits → take (2 * (i + 1)) (set (set digits (2 * i) x) (2 * i + 1) y) ≡ take (2 * i) digits ++ x ∷ y ∷ []
+two_more digits i x y h =
+    let two : 2 * (i + 1) ≡ suc (2 * i + 1) = omega arith in
+    let one : 2 * i + 1 ≡ suc (2 * i) = omega arith in
+    ap (λ (n : ℕ). take n (set (set digits (2 * i) x) (2 * i + 1) y)) two
+    ∙ take-suc-set (set digits (2 * i) x) (2 * i + 1) y (omega (arith, length-set digits (2 * i) x))
+    ∙ ap (λ (n : ℕ). take n (set digits (2 * i) x) ++ y ∷ []) one
+    ∙ ap (λ (l : List ℕ). l ++ y ∷ []) (take-suc-set digits (2 * i) x (omega arith))
+    ∙ append_assoc (take (2 * i) digits) (x ∷ []) (y ∷ [])
 
 hex_pairs_append : (xs ys : List ℕ) → hex_pairs (xs ++ ys) ≡ hex_pairs xs ++ hex_pairs ys
 hex_pairs_append [] ys = refl
