@@ -9,7 +9,7 @@ use native.Mathlib.Omega.{arith}
 use lib.Dec.{leb, eqb}
 use lib.ListN.{length, take, drop, length-append, length-drop, drop_of_length-le, take-append-drop}
 use lib.Seq.{drop-drop, take_all, take-append-add, take-append_seam, drop-append-add, drop-append_seam, length-take-le}
-use borrow.Author.Tests.{eqb-true, ne_eqb, le-leb, lt-leb}
+use borrow.Author.Tests.{eqb-true, ne_eqb, le-leb, lt-leb, lt-ltb}
 use borrow.Rule.Slice.PartMut.{mid_of, put_mid}
 use Rattle.basics.proofs.RangeLaws.{by_cases}
 use Rattle.parser.proofs.PaddedLaws.{zeros, drop_zeros}
@@ -22,7 +22,7 @@ use Rattle.line_ends.specs.LineEnd.{line_length}
 use Rattle.line_ends.proofs.LineEndLaws.{end_within}
 use Rattle.lines.specs.declared.buffers.Carry.{Carry}
 use Rattle.lines.specs.declared.feed.Kept.{Kept}
-use Rattle.lines.specs.CodeStepped.{carried_of, kept_of, carry_of, kept_as, Appended, Reached, LinesReached, StepEffect, step_of, end_into}
+use Rattle.lines.specs.CodeStepped.{carried_of, kept_of, carry_of, kept_as, Appended, Reached, LinesReached, StepEffect, step_of, end_into, carry_after}
 use Rattle.line.proofs.LineLaws.{room_printed}
 use Rattle.line.proofs.LengthLaws.{line_few}
 use Rattle.lines.proofs.TextLaws.{line_take, fed_line, fed_plain}
@@ -261,6 +261,17 @@ end_step cols kept cells out h =
 pub end_none : (cols : List ℕ) (st : State) (out : List ℕ) → ◌≡◌ {A = LineEffect} (0, out, st) (end_into cols st [] out)
 unfolding end_into ended
 end_none cols st out = by_cases (leb longest_output_line (length out)) (λ t. rw t) (λ t. rw t)
+
+-- what is carried then
+pub end_carry : (cols : List ℕ) (kept : Kept) (cells out : List ℕ) → 0 < kept.carry.len
+    → (step_of cols kept cells (0x0A ∷ []) out).1.0.carry ≡ carry_after kept.carry out
+unfolding carry_after step_of fed fed_byte
+end_carry cols kept cells out h =
+    by_cases (leb longest_output_line (length out)) (λ t. rw (t, lt-ltb 0 kept.carry.len h)) (λ t. rw (t, lt-ltb 0 kept.carry.len h))
+
+pub none_after : (c : Carry) (out : List ℕ) → c.len ≡ 0 → c ≡ carry_after c out
+unfolding carry_after
+none_after c out e = rw e
 
 -- ---- a whole chunk
 

@@ -1,5 +1,5 @@
 -- What the code leaves when it takes a piece of input. Only contracts use it.
-use Rattle.std.specs.Prelude.{ℕ, ◌+◌, ◌*◌, ◌-◌, ◌≤◌, ◌≡◌, cond, List, [], ◌++◌, leb, length, take, drop, Option, None, Some}
+use Rattle.std.specs.Prelude.{ℕ, ◌+◌, ◌*◌, ◌-◌, ◌≤◌, ◌≡◌, cond, List, [], ◌++◌, ◌&&◌, ltb, leb, length, take, drop, Option, None, Some}
 use Rattle.calls.specs.State.{State, state}
 use Rattle.print.specs.CodePrinted.{longest_output_line}
 use Rattle.lines.specs.declared.buffers.Carry.{Carry}
@@ -59,3 +59,7 @@ step_of cols kept cells chunk out =
 -- the end of the input: what is carried is executed; nothing is done if the output has no room for the longest line
 unfoldable pub end_into : List ℕ → State → List ℕ → List ℕ → LineEffect
 end_into cols st carried out = cond (leb longest_output_line (length out)) (printed_into out (ended cols st carried)) (0, out, st)
+
+-- the bytes that are carried after the end of the input: none, if what was carried was executed, and otherwise the same as before
+unfoldable pub carry_after : Carry → List ℕ → Carry
+carry_after c out = cond (ltb 0 c.len && leb longest_output_line (length out)) (carry_of []) c

@@ -4,7 +4,7 @@ ghost use Rattle.ecc.specs.Columns.{columns};
 ghost use Rattle.calls.specs.State.{state, lent_state};
 ghost use Rattle.print.specs.CodePrinted.{longest_output_line};
 ghost use Rattle.line_ends.specs.LineEnd.{line_length};
-ghost use Rattle.lines.specs.CodeStepped.{carried_of, kept_as, LinesReached, step_of, end_into};
+ghost use Rattle.lines.specs.CodeStepped.{carried_of, kept_as, LinesReached, step_of, end_into, carry_after};
 ghost use Rattle.lines.specs.Text.{carrying, fresh_state};
 
 use crate::buffers::Carry;
@@ -103,14 +103,19 @@ impl Kept {
         Some(all.at)
     }
 
-    // The end of the input: the carried bytes, if there are any, are a line (LINE-1). Returns how many bytes it printed.
-    #[tactic(auto, using(crate::proofs::StepLaws::end_none))]
+    // The end of the input: the carried bytes, if there are any, are a line (LINE-1). Returns how many bytes it printed. If `out` has no room for the
+    // longest line, nothing is executed, and the bytes stay carried.
+    #[tactic(auto, using(crate::proofs::StepLaws::end_none, crate::proofs::StepLaws::none_after))]
     pub fn finish(&mut self, cells: &mut [u8], out: &mut [u8]) -> usize
-        ensures { (result, out.new, state self.new.registers cells.new) ≡ end_into columns (state self.old.registers cells.old) (carried_of self.old.carry) out.old }
+        ensures ended { (result, out.new, state self.new.registers cells.new) ≡ end_into columns (state self.old.registers cells.old) (carried_of self.old.carry) out.old }
+        ensures carry { self.new.carry ≡ carry_after self.old.carry out.old }
     {
         if self.carry.len == 0 {
             return 0;
         }
-        self.step(cells, b"\n", out).unwrap_or(0)
+        match self.step(cells, b"\n", out) {
+            Some(printed) => printed,
+            None => 0,
+        }
     }
 }
